@@ -1,0 +1,12 @@
+-- The laws of the words in specs/: start at Painted.antt and Outcome.antt.
+pub mod Bools
+pub mod Paint
+pub mod Cells
+pub mod Painted
+pub mod Taken
+pub mod Parts
+pub mod Rows
+pub mod Lists
+pub mod Samples
+pub mod Refusal
+pub mod Outcome

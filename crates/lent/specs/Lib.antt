@@ -1,0 +1,6 @@
+-- What a call leaves in lent buffers, and how it ends.
+pub mod Paint
+pub mod Samples
+pub mod Sizes
+pub mod Refusal
+pub mod Outcome

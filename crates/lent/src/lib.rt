@@ -1,0 +1,99 @@
+// What a call leaves in lent buffers: the words and the laws that every other crate states its promises with, and the smallest writers.
+//
+// A call's outcome is an equation (specs/Outcome.antt), a plane after a call is `painted` (specs/Paint.antt), and a refusal is the first
+// number whose test holds (specs/Refusal.antt). The row writers promise every byte of the row that they are lent. Sizes are rounded
+// up, and buffers are found too short, for every size, stride and length, with no sum or product that wraps.
+ghost use mathlib.Core.Path.{_≡_};
+ghost use Prim.Native.Nat.{_*_, _/_, _≤_, _<_, min};
+ghost use lib.ListN.{length, getD};
+ghost use Rattle.lent.specs.Paint.{paint, every};
+ghost use Rattle.lent.specs.Sizes.{roundUp, halfUp, tooShort};
+
+// What a call answers: 0 or the number of its refusal, and a count, which is 0 in every refusal.
+#[repr(C)]
+pub struct Answer {
+    pub number: u32,
+    pub count: usize,
+}
+
+// dst becomes src.
+pub fn copy(dst: &mut [u8], src: &[u8])
+    requires { ⌜ length (now dst) ≡ length (now src) ⌝ }
+    ensures { λ _. ⌜ now (dst .exit) ≡ now (src .entry) ⌝ }
+{
+    let mut i = 0;
+    while i < src.len() {
+        dst[i] = src[i];
+        i += 1;
+    }
+}
+
+// Each byte of `from` goes to two places of dst. In pairs, since an index i / 2 keeps the compiler from vector code; an odd last one apart.
+pub fn spread(dst: &mut [u8], from: &[u8])
+    requires { ⌜ length (now dst) ≤ 2 * length (now from) ⌝ }
+    ensures { λ _. ⌜ now (dst .exit) ≡ paint every (λ k. getD (now (from .entry)) (k / 2) 0) (now (dst .entry)) ⌝ }
+{
+    let pairs = dst.len() / 2;
+    let mut i = 0;
+    while i < pairs {
+        let sample = from[i];
+        dst[2 * i] = sample;
+        dst[2 * i + 1] = sample;
+        i += 1;
+    }
+    let end = 2 * pairs;
+    if end == dst.len() {
+        return;
+    }
+    dst[end] = from[pairs];
+}
+
+// Every byte of dst becomes `value`.
+pub fn fill(dst: &mut [u8], value: u8)
+    ensures { λ _. ⌜ now (dst .exit) ≡ paint every (λ k. value) (now (dst .entry)) ⌝ }
+{
+    let mut i = 0;
+    while i < dst.len() {
+        dst[i] = value;
+        i += 1;
+    }
+}
+
+// The smaller of two.
+pub fn least(a: usize, b: usize) -> usize
+    ensures { λ r. ⌜ r ≡ min a b ⌝ }
+{
+    if a < b { a } else { b }
+}
+
+// A width or a height rounded up to a whole macroblock (the Rust's next_multiple_of(16)).
+pub fn round_up_16(n: u16) -> usize
+    ensures { λ r. ⌜ r ≡ roundUp 16 n ⌝ }
+{
+    (n as usize + 15) / 16 * 16
+}
+
+// Rounded up to even (the Rust's next_multiple_of(2)).
+pub fn round_up_2(n: u16) -> usize
+    ensures { λ r. ⌜ r ≡ roundUp 2 n ⌝ }
+{
+    (n as usize + 1) / 2 * 2
+}
+
+// Half, rounded up (the Rust's div_ceil(2)).
+pub fn half_up(n: u16) -> usize
+    ensures { λ r. ⌜ r ≡ halfUp n ⌝ }
+{
+    (n as usize + 1) / 2
+}
+
+// Whether len bytes are fewer than `rows` rows of `stride` bytes. It divides, so that no product wraps: one that is too large for the
+// machine word is above every length.
+pub fn too_short(stride: usize, rows: usize, len: usize) -> bool
+    ensures { λ r. ⌜ r ≡ tooShort stride rows len ⌝ }
+{
+    if rows == 0 {
+        return false;
+    }
+    len / rows < stride
+}
