@@ -8,5 +8,6 @@ pub mod Parts
 pub mod Rows
 pub mod Lists
 pub mod Samples
+pub mod Pixels
 pub mod Refusal
 pub mod Outcome

@@ -1,17 +1,18 @@
 -- A part `&mut xs[a..e]` that was lent and has come back as ys: what the whole buffer holds then, and that it is `painted`. Every row
 -- writer goes through `painted-row`.
 -- Assumes nothing.
-use Prim.Native.Nat.{ℕ, _+_, _*_, _-_, _<_, _≤_}
+use Prim.Native.Nat.{ℕ, _+_, _*_, _/_, _%_, _-_, _<_, _≤_}
 use native.Mathlib.Omega.{arith}
-use mathlib.Core.Path.{_≡_, sym, ap, _∙_, subst}
-use mathlib.Core.Bool.{Bool, true, cond}
+use mathlib.Core.Path.{_≡_, refl, sym, ap, _∙_, subst}
+use mathlib.Core.Bool.{Bool, true, cond, _&&_}
 use mathlib.Core.Logic.{⊎-elim}
 use mathlib.Core.List.{List, _++_}
 use lib.ListN.{length, getD, take, drop, length-append, length-take, length-drop, List·getD-append}
 use lib.Seq.{getD-take, getD-drop, getD-append-add, length-take-le}
-use Rattle.lent.specs.Paint.{paint, painted}
-use Rattle.lent.proofs.Bools.{split, never-true, cond-false, cond-ext}
-use Rattle.lent.proofs.Paint.{length-paint, getD-paint}
+use borrow.Author.Tests.{lt-ltb, le-ltb}
+use Rattle.lent.specs.Paint.{paint, painted, every, whole}
+use Rattle.lent.proofs.Bools.{split, never-true, both, cond-false, cond-true, cond-ext}
+use Rattle.lent.proofs.Paint.{length-paint, getD-paint, paint-is}
 use Rattle.lent.proofs.Cells.{row-in, row-after}
 use Rattle.lent.proofs.Painted.{painted-is}
 
@@ -99,3 +100,23 @@ module _ (w h : ℕ) (T : ℕ → ℕ → Bool) (s : ℕ → ℕ → ℕ) (xs : 
           (λ ge′. out row c (part-after xs ys a e (omega arith) room long (row * w + c) (omega arith)) (λ z. omega (arith, only row c z)))
           (split c right))
           (split c left)
+
+-- the front of a buffer, painted whole, is the plane painted whole
+pub painted-front : (w h : ℕ) (s : ℕ → ℕ → ℕ) (xs ys : List ℕ) → h * w ≤ length xs → ys ≡ paint every (λ k. s (k / w) (k % w)) (take (h * w) xs) → ys ++ drop (h * w) xs ≡ painted w h whole s xs
+unfolding painted
+painted-front w h s xs ys fits is =
+    paint-is _ _ xs (ys ++ drop (h * w) xs) (simp (length-append, length-drop) (omega (arith, long)))
+    (λ k hk. ⊎-elim
+    (λ lt. List·getD-append ys _ 0 k (omega (arith, long)) ∙ ap (λ (l : List ℕ). getD l k 0) is ∙ getD-paint every _ _ k (omega (arith, room)) ∙ sym (cond-true _ _ _ (both _ _ (lt-ltb k (h * w) lt) refl)))
+    (λ ge. let k-is : k ≡ length ys + (k - h * w) = omega (arith, long) in
+    ap (λ (n : ℕ). getD (ys ++ drop (h * w) xs) n 0) k-is
+    ∙ getD-append-add ys _ (k - h * w) 0 ∙ getD-drop (h * w) xs (k - h * w) 0
+    ∙ ap (λ (n : ℕ). getD xs n 0) (omega arith)
+    ∙ sym (cond-false _ _ _ (ap (λ (b : Bool). b && true) (le-ltb k (h * w) ge))))
+    (split k (h * w)))
+  where
+    room : length (take (h * w) xs) ≡ h * w
+    room = length-take-le (h * w) xs fits
+
+    long : length ys ≡ h * w
+    long = ap length is ∙ length-paint every _ _ ∙ room

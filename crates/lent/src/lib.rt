@@ -4,9 +4,10 @@
 // number whose test holds (specs/Refusal.antt). The row writers promise every byte of the row that they are lent. Sizes are rounded
 // up, and buffers are found too short, for every size, stride and length, with no sum or product that wraps.
 ghost use mathlib.Core.Path.{_≡_};
-ghost use Prim.Native.Nat.{_*_, _/_, _≤_, _<_, min};
+ghost use Prim.Native.Nat.{_+_, _*_, _/_, _≤_, _<_, min};
 ghost use lib.ListN.{length, getD};
 ghost use Rattle.lent.specs.Paint.{paint, every};
+ghost use Rattle.lent.specs.Pixels.{stored};
 ghost use Rattle.lent.specs.Sizes.{roundUp, halfUp, tooShort};
 
 // What a call answers: 0 or the number of its refusal, and a count, which is 0 in every refusal.
@@ -57,6 +58,18 @@ pub fn fill(dst: &mut [u8], value: u8)
         dst[i] = value;
         i += 1;
     }
+}
+
+// Pixel i of out becomes p.
+pub fn put_pixel(out: &mut [u8], i: usize, p: [u8; 4])
+    requires { ⌜ 4 * i + 4 ≤ length (now out) ⌝ }
+    ensures { λ _. ⌜ now (out .exit) ≡ stored (now (out .entry)) (4 * i) p ⌝ }
+{
+    let k = 4 * i;
+    out[k] = p[0];
+    out[k + 1] = p[1];
+    out[k + 2] = p[2];
+    out[k + 3] = p[3];
 }
 
 // The smaller of two.
