@@ -1,0 +1,33 @@
+-- The two answers are the two cases of the rule: a change below 30 is not made (`near`), any other is (`far`). Assumes nothing.
+use mathlib.Core.Path.{sym}
+use native.Mathlib.Omega.{arith}
+use borrow.Author.Needs.{needs}
+use Rattle.colour.proofs.Filtering.{near, far}
+use Rattle.colour.proofs.filtered.Statement.{statement}
+use Rattle.colour.proofs.filtered.Tie as tie
+
+wide-requires : tie.Need-wide-requires
+wide-requires c κs = search needs
+
+mul-fit : tie.Need-mul-fit
+mul-fit c = search needs
+
+fit-requires : tie.Need-fit-requires
+fit-requires c κs = search needs
+
+abs-diff-requires : tie.Need-abs-diff-requires
+abs-diff-requires c κs = search needs
+
+returns : tie.Need-returns
+returns c =
+    let a = c .before .before .before .before .args in
+    sym (near (a .a) (a .s) (c .before .before .fit .result) (omega arith) (omega arith))
+
+returns-2 : tie.Need-returns-2
+returns-2 c =
+    let a = c .before .before .before .before .args in
+    sym (far (a .a) (a .s) (c .before .before .fit .result) (omega arith) (omega arith))
+
+pub filtered-spec : {M : Type 1} → statement M
+filtered-spec =
+    tie.close (tie.spec wide-requires mul-fit fit-requires abs-diff-requires returns returns-2)

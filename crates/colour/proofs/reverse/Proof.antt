@@ -1,0 +1,24 @@
+-- Each channel is the document's formula, in natural numbers: `Formulas` says so. Assumes nothing.
+use borrow.Author.Needs.{needs}
+use Rattle.colour.specs.Colour.{reverseOf}
+use Rattle.colour.proofs.Formulas.{red-is, green-is, blue-is}
+use Rattle.colour.proofs.reverse.Statement.{statement}
+use Rattle.colour.proofs.reverse.Tie as tie
+
+red-requires : tie.Need-red-requires
+red-requires c κs = search needs
+
+green-requires : tie.Need-green-requires
+green-requires c κs = search needs
+
+blue-requires : tie.Need-blue-requires
+blue-requires c κs = search needs
+
+returns : tie.Need-returns
+unfolding reverseOf
+returns c =
+    let a = c .before .before .before .args in
+    cc (red-is (a .y) (a .v), green-is (a .y) (a .u) (a .v), blue-is (a .y) (a .u))
+
+pub reverse-spec : {M : Type 1} → statement M
+reverse-spec = tie.close (tie.spec red-requires green-requires blue-requires returns)

@@ -1,0 +1,3 @@
+-- What the contracts of the crate say: whole numbers with floor division, and the colour rules.
+pub mod Whole
+pub mod Colour
