@@ -1,0 +1,2 @@
+-- The numbers worked by hand, as one table.
+pub mod Worked
