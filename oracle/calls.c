@@ -1,14 +1,27 @@
 /* Calls one function of each result type, before anything else links the library: a result that this machine
    returns in another way than the library does would crash or be wrong here. */
+#include <stdbool.h>
+#include <stddef.h>
 #include <stdint.h>
 #include <stdio.h>
+#include <string.h>
 
 typedef struct { uint8_t y, u, v; } Yuv;
 typedef struct { uint8_t bytes[4]; } Pixel;
+typedef struct { uint32_t number; size_t count; } Answer;
+typedef struct { uint32_t number; bool present; size_t start, length; } Row;
 
 Yuv haythaw_forward(uint8_t r, uint8_t g, uint8_t b);
 Pixel haythaw_reverse(uint8_t y, uint8_t u, uint8_t v);
 uint8_t haythaw_average(uint8_t a, uint8_t b, uint8_t c, uint8_t d);
+uint32_t haythaw_view(uint16_t view_width, uint16_t view_height, size_t luma_stride, size_t chroma_stride,
+                      const uint8_t *view_y, size_t view_y_count, const uint8_t *view_u, size_t view_u_count,
+                      const uint8_t *view_v, size_t view_v_count);
+Row haythaw_luma_row(uint16_t view_width, uint16_t view_height, size_t luma_stride, size_t chroma_stride,
+                     const uint8_t *view_y, size_t view_y_count, const uint8_t *view_u, size_t view_u_count,
+                     const uint8_t *view_v, size_t view_v_count, size_t row);
+bool haythaw_is_avc_format(const uint8_t *data, size_t data_count);
+Answer haythaw_avc_to_annex_b(const uint8_t *data, size_t data_count, uint8_t *out, size_t out_count);
 
 static int wrong;
 
@@ -20,7 +33,7 @@ static void expect(const char *what, int holds)
     }
 }
 
-int main(void)
+static void try_bytes(void)
 {
     Yuv red = haythaw_forward(255, 0, 0);
     expect("forward, 3 bytes", red.y == 53 && red.u == 99 && red.v == 255);
@@ -29,6 +42,38 @@ int main(void)
     expect("reverse, 4 bytes", back.bytes[0] == 252 && back.bytes[1] == 0 && back.bytes[2] == 0 && back.bytes[3] == 255);
 
     expect("average, a byte", haythaw_average(255, 255, 255, 252) == 254);
+}
 
+/* A view of 3 by 2 with strides 4 and 2: its second luma row stands at 4. */
+static void try_view(void)
+{
+    uint8_t y[8] = {0}, u[2] = {0}, v[2] = {0};
+    expect("view, a number", haythaw_view(3, 2, 4, 2, y, 8, u, 2, v, 2) == 0);
+    expect("view, a refusal", haythaw_view(3, 2, 4, 2, y, 8, u, 2, v, 1) == 4);
+
+    Row second = haythaw_luma_row(3, 2, 4, 2, y, 8, u, 2, v, 2, 1);
+    expect("luma row, a row", second.number == 0 && second.present && second.start == 4 && second.length == 3);
+    Row third = haythaw_luma_row(3, 2, 4, 2, y, 8, u, 2, v, 2, 2);
+    expect("luma row, an absent row", third.number == 0 && !third.present && third.start == 0 && third.length == 0);
+}
+
+static void try_payload(void)
+{
+    const uint8_t units[6] = {0, 0, 0, 2, 0x67, 0x42}, annex_b[6] = {0, 0, 0, 1, 0x67, 0x42};
+    expect("is AVC format, yes", haythaw_is_avc_format(units, 6));
+    expect("is AVC format, no", !haythaw_is_avc_format(units, 5));
+
+    uint8_t out[6] = {0};
+    Answer short_by_one = haythaw_avc_to_annex_b(units, 6, out, 5);
+    expect("Annex B, a refusal", short_by_one.number == 6 && short_by_one.count == 0);
+    Answer whole = haythaw_avc_to_annex_b(units, 6, out, 6);
+    expect("Annex B, an answer", whole.number == 0 && whole.count == 6 && memcmp(out, annex_b, 6) == 0);
+}
+
+int main(void)
+{
+    try_bytes();
+    try_view();
+    try_payload();
     return wrong;
 }

@@ -1,53 +1,8 @@
 // The exported functions of the library, for C and for Rust: each is one line over a public call of a crate below and
-// promises what that call promises. None asks anything of its caller.
-// The four here are the colour arithmetic on bytes. They serve the runs that compare the port with its original, and are in
-// no header.
-ghost use mathlib.Core.Path.{_≡_};
-ghost use mathlib.Core.List.{[], _∷_};
-ghost use Rattle.colour.specs.Colour.{forwardOf, reverseOf, averageOf, filterOf};
-use colour::Block;
-use colour::Yuv;
-
-// A pixel over the boundary: red, green, blue, alpha.
-#[repr(C)]
-pub struct Pixel {
-    pub bytes: [u8; 4],
-}
-
-// Y, U and V of a colour.
-#[no_mangle]
-pub extern "C" fn haythaw_forward(r: u8, g: u8, b: u8) -> Yuv
-    ensures { λ p. ⌜ p ≡ forwardOf r g b ⌝ }
-{
-    colour::forward(r, g, b)
-}
-
-// The pixel of Y, U and V.
-#[no_mangle]
-pub extern "C" fn haythaw_reverse(y: u8, u: u8, v: u8) -> Pixel
-    ensures { λ p. ⌜ p .bytes ≡ reverseOf y u v ⌝ }
-{
-    Pixel {
-        bytes: colour::reverse(y, u, v),
-    }
-}
-
-// The average of a block: the even-even sample a, then right, below, diagonal.
-#[no_mangle]
-pub extern "C" fn haythaw_average(a: u8, b: u8, c: u8, d: u8) -> u8
-    ensures { λ r. ⌜ r ≡ averageOf (a ∷ b ∷ c ∷ d ∷ []) ⌝ }
-{
-    colour::average(Block {
-        samples: [a, b, c, d],
-    })
-}
-
-// The reverse filter of a block, in the same order.
-#[no_mangle]
-pub extern "C" fn haythaw_filter(a: u8, b: u8, c: u8, d: u8) -> u8
-    ensures { λ r. ⌜ r ≡ filterOf (a ∷ b ∷ c ∷ d ∷ []) ⌝ }
-{
-    colour::filter(Block {
-        samples: [a, b, c, d],
-    })
-}
+// promises what that call promises, for every input. None asks anything of its caller.
+//
+// A slice passes as a pointer and an element count. An answer that is a number alone stands for a count that is always 0, and a
+// row is its place in the plane that the caller lent, since a slice cannot be returned over this boundary.
+pub mod colour_calls; // for the runs that compare the port with its original, in no header
+pub mod payload_calls; // the form of an H.264 payload
+pub mod view_calls; // a 4:2:0 view and its rows

@@ -1,30 +1,58 @@
 //! What a call answers, as far as the runs compare it.
 
-use std::fmt::Debug;
-
-/// An answer, or a lent buffer after the call.
-pub trait Answer: PartialEq + Debug {
+/// An answer, with the lent buffers after the call if there are any.
+pub trait Answer: PartialEq {
     /// How many bytes of it are compared.
     fn size(&self) -> usize;
 
-    /// Makes it a wrong one, for the self-test.
-    fn alter(&mut self);
+    /// Makes it a wrong one, for the self-test. `choice`, any number, says in which place.
+    fn alter(&mut self, choice: u64);
+
+    /// The answer in a line that is not too long to print.
+    fn shown(&self) -> String;
 
     /// Says where `theirs` first differs.
-    fn differs_at(&self, theirs: &Self) -> String;
+    fn differs_at(&self, theirs: &Self) -> String {
+        format!("ours {}, the original's {}", self.shown(), theirs.shown())
+    }
 }
 
-impl Answer for u8 {
+/// The place that a choice picks of `places`, at least one.
+pub fn picked(choice: u64, places: usize) -> usize {
+    usize::try_from(choice % places as u64).expect("below a usize")
+}
+
+macro_rules! numbers {
+    ($($number:ty)*) => {$(
+        impl Answer for $number {
+            fn size(&self) -> usize {
+                size_of::<Self>()
+            }
+
+            fn alter(&mut self, choice: u64) {
+                *self ^= 1 << picked(choice, 8 * size_of::<Self>());
+            }
+
+            fn shown(&self) -> String {
+                self.to_string()
+            }
+        }
+    )*};
+}
+
+numbers!(u8 u32 usize);
+
+impl Answer for bool {
     fn size(&self) -> usize {
         1
     }
 
-    fn alter(&mut self) {
-        *self ^= 1;
+    fn alter(&mut self, _choice: u64) {
+        *self = !*self;
     }
 
-    fn differs_at(&self, theirs: &Self) -> String {
-        format!("ours {self}, the original's {theirs}")
+    fn shown(&self) -> String {
+        self.to_string()
     }
 }
 
@@ -33,16 +61,33 @@ impl<const N: usize> Answer for [u8; N] {
         N
     }
 
-    fn alter(&mut self) {
-        if let Some(last) = self.last_mut() {
-            last.alter();
-        }
+    fn alter(&mut self, choice: u64) {
+        self[picked(choice, N)].alter(choice);
+    }
+
+    fn shown(&self) -> String {
+        format!("{self:?}")
     }
 
     fn differs_at(&self, theirs: &Self) -> String {
-        match self.iter().zip(theirs).position(|(ours, theirs)| ours != theirs) {
-            Some(at) => format!("at byte {at}: {}", self[at].differs_at(&theirs[at])),
-            None => "nowhere".to_owned(),
-        }
+        first_difference(self, theirs)
+    }
+}
+
+/// Where two runs of bytes first differ.
+pub fn first_difference(ours: &[u8], theirs: &[u8]) -> String {
+    match ours.iter().zip(theirs).position(|(ours, theirs)| ours != theirs) {
+        Some(at) => format!("at byte {at}: ours {}, the original's {}", ours[at], theirs[at]),
+        None if ours.len() == theirs.len() => "nowhere".to_owned(),
+        None => format!("in length: ours {}, the original's {}", ours.len(), theirs.len()),
+    }
+}
+
+/// The first of the bytes, and how many there are.
+pub fn beginning(bytes: &[u8]) -> String {
+    const SHOWN: usize = 32;
+    match bytes.get(..SHOWN) {
+        Some(first) if SHOWN < bytes.len() => format!("{} bytes {first:?} ..", bytes.len()),
+        _ => format!("{} bytes {bytes:?}", bytes.len()),
     }
 }

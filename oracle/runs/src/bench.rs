@@ -14,12 +14,16 @@ pub struct Bench {
 
 /// One pass over the same input by each side. A pass answers a sum of what it was answered.
 pub struct Sides {
+    /// How many calls a pass makes.
+    pub calls: u64,
     pub ours: Box<dyn FnMut() -> u64>,
     pub theirs: Box<dyn FnMut() -> u64>,
 }
 
 /// The least times of the two sides.
 pub struct Times {
+    /// How many calls were made in each.
+    pub calls: u64,
     pub ours: Duration,
     pub theirs: Duration,
 }
@@ -28,7 +32,7 @@ impl Bench {
     /// Runs both sides in turns and keeps the least time of each.
     pub fn run(&self, rounds: u32) -> Times {
         let mut sides = (self.sides)();
-        let mut least = Times { ours: Duration::MAX, theirs: Duration::MAX };
+        let mut least = Times { calls: sides.calls, ours: Duration::MAX, theirs: Duration::MAX };
         for _ in 0..rounds {
             let (ours, our_time) = timed(&mut sides.ours);
             let (theirs, their_time) = timed(&mut sides.theirs);

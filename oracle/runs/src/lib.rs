@@ -9,6 +9,7 @@ pub mod bench;
 pub mod options;
 #[allow(unsafe_code)]
 pub mod ours;
+pub mod outcome;
 pub mod progress;
 pub mod random;
 pub mod run;

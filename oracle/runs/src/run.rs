@@ -42,10 +42,11 @@ pub struct Run {
     name: &'static str,
     pub random: Random,
     budget: Budget,
-    began: Instant,
+    /// When the first random case was asked for.
+    began: Option<Instant>,
     cases: u64,
-    /// The number of the answer that a self-test alters.
-    altered: Option<u64>,
+    /// The number of the answer that a self-test alters, and what says how.
+    altered: Option<(u64, u64)>,
     /// Whether each answer is printed.
     shown: bool,
     counts: Arc<Counts>,
@@ -60,7 +61,7 @@ impl Run {
             name,
             random: Random::new(seed, name),
             budget,
-            began: Instant::now(),
+            began: None,
             cases: 0,
             altered: None,
             shown: false,
@@ -73,7 +74,7 @@ impl Run {
     /// The same run with one of the library's answers altered: the suite has to notice.
     #[must_use]
     pub fn altering(mut self) -> Self {
-        self.altered = Some(self.random.between(0, 99));
+        self.altered = Some((self.random.between(0, 99), self.random.number()));
         self
     }
 
@@ -89,22 +90,26 @@ impl Run {
         self.cases += 1;
         match self.budget {
             Budget::Cases(cases) => self.cases <= cases,
-            Budget::Time(time) => self.began.elapsed() < time,
+            Budget::Time(time) => self.began.get_or_insert_with(Instant::now).elapsed() < time,
         }
     }
 
     /// The library's answer. Each suite passes it through here, for the self-test.
     #[inline]
     pub fn ours<A: Answer>(&self, mut answer: A) -> A {
-        if self.altered == Some(self.findings.calls) {
-            answer.alter();
+        match self.altered {
+            Some((number, choice)) if number == self.findings.calls => answer.alter(choice),
+            _ => {}
         }
         answer
     }
 
-    /// Notes that the library refused a call.
+    /// Notes the number of an answer of the library, if it is a refusal.
+    #[inline]
     pub fn refused(&mut self, number: u32) {
-        *self.findings.refusals.entry(number).or_default() += 1;
+        if number != 0 {
+            *self.findings.refusals.entry(number).or_default() += 1;
+        }
     }
 
     /// Compares the two answers to one call. `words` is the case as the suite's `replay` reads it.
@@ -114,9 +119,12 @@ impl Run {
         self.findings.bytes += ours.size() as u64;
         self.counts.calls.store(self.findings.calls, Ordering::Relaxed);
         if self.shown {
-            println!("ours           {ours:?}\nthe original's {theirs:?}");
+            println!("ours           {}\nthe original's {}", ours.shown(), theirs.shown());
         }
         if ours != theirs {
+            if self.shown {
+                println!("they differ: {}", ours.differs_at(theirs));
+            }
             self.note(size, words, || ours.differs_at(theirs));
         }
     }

@@ -24,9 +24,10 @@ fn main() -> ExitCode {
         "times: the least of {ROUNDS} runs of each side, in turns, on the same input; ratio: ours / the original's"
     );
     println!("calls: each side is called through a function that is never inlined, so that the two are alike");
-    println!("buffers: none is cleared between runs (forward, reverse, average and filter have none)");
-    println!("allocations: the original's times include its own (forward, reverse, average and filter make none)");
-    let mut rows = vec![["call", "input", "ours, ms", "original, ms", "ratio"].map(str::to_owned).to_vec()];
+    println!("buffers: none is cleared between runs");
+    println!("allocations: the original's times include its own; the library makes none. Where that matters, the row says so");
+    let mut rows =
+        vec![["call", "input", "ours, ms", "original, ms", "ratio", "ours, ns a call"].map(str::to_owned).to_vec()];
     for bench in BENCHES.iter().filter(|bench| only.as_ref().is_none_or(|name| bench.name == name)) {
         eprintln!("{} ...", bench.name);
         let times = bench.run(ROUNDS);
@@ -36,6 +37,7 @@ fn main() -> ExitCode {
             milliseconds(times.ours),
             milliseconds(times.theirs),
             format!("{:.2}", times.ours.as_secs_f64() / times.theirs.as_secs_f64()),
+            format!("{:.1}", times.ours.as_secs_f64() * 1e9 / times.calls as f64),
         ]);
     }
     print!("{}", aligned(&rows));

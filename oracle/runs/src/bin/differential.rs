@@ -100,15 +100,18 @@ fn replay(line: &str, options: &Options) -> Result<bool, String> {
 }
 
 fn help() -> String {
-    let suites: Vec<Vec<String>> = SUITES.iter().map(|suite| vec![format!("  {}", suite.name)]).collect();
-    let names = aligned(&suites);
-    let suites: String = names.lines().zip(SUITES).map(|(name, suite)| format!("{name}   {}\n", suite.about)).collect();
+    let width = SUITES.iter().map(|suite| suite.name.len()).max().unwrap_or(0);
+    let next_line = format!("\n{:width$}     ", "");
+    let suites: String = SUITES
+        .iter()
+        .map(|suite| format!("  {:width$}   {}\n", suite.name, suite.about.replace('\n', &next_line)))
+        .collect();
     format!(
         "differential: compares every answer of the library with the Rust original's
 
   --seed N        the seed of all that is random (default {DEFAULT_SEED})
   --count N       random cases for each suite that has them (default {DEFAULT_COUNT})
-  --seconds N     or seconds for each such suite
+  --seconds N     or seconds of them for each such suite
   --only NAME     one suite alone
   --replay LINE   the one case of a line that a difference printed, as \"forward 255 0 0\"
   --self-test     alters one answer of the library in each suite, which has to notice

@@ -5,13 +5,14 @@ use std::rc::Rc;
 use crate::bench::Sides;
 use crate::random::Random;
 
-/// The bytes of a case that `--replay` gave.
+/// The words of a case that `--replay` gave, as bytes.
+pub fn all(words: &[u64]) -> Result<Vec<u8>, String> {
+    words.iter().map(|&word| u8::try_from(word).map_err(|_| format!("{word} is not a byte"))).collect()
+}
+
+/// The bytes of a case that has so many.
 pub fn of_case<const N: usize>(words: &[u64]) -> Result<[u8; N], String> {
-    let bytes: Vec<u8> = words
-        .iter()
-        .map(|&word| u8::try_from(word).map_err(|_| format!("{word} is not a byte")))
-        .collect::<Result<_, _>>()?;
-    <[u8; N]>::try_from(bytes).map_err(|bytes| format!("{N} bytes make a case, not {}", bytes.len()))
+    <[u8; N]>::try_from(all(words)?).map_err(|bytes| format!("{N} bytes make a case, not {}", bytes.len()))
 }
 
 /// All triples of bytes, in order, with their place in it.
@@ -63,6 +64,7 @@ pub fn sides(ours: impl Fn([u8; 4]) -> u64 + 'static, theirs: impl Fn([u8; 4]) -
     let inputs: Rc<[[u8; 4]]> = (0..1 << 22).map(|_| (random.number() as u32).to_le_bytes()).collect();
     let same = Rc::clone(&inputs);
     Sides {
+        calls: inputs.len() as u64,
         ours: Box::new(move || inputs.iter().map(|&input| ours(input)).sum()),
         theirs: Box::new(move || same.iter().map(|&input| theirs(input)).sum()),
     }

@@ -1,4 +1,4 @@
-//! The library's functions. All that is unsafe in the runs is in this file.
+//! The colour arithmetic on bytes.
 
 #[repr(C)]
 struct Yuv {

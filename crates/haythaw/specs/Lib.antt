@@ -1,0 +1,2 @@
+-- Numbers over the boundary as the values that the crates below take.
+pub mod Sizes
