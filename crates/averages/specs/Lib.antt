@@ -1,0 +1,2 @@
+-- The averages of a plane's blocks.
+pub mod Averaged

@@ -1,0 +1,4 @@
+-- A 4:4:4 picture over three lent planes.
+pub mod Sizes
+pub mod New
+pub mod FromRgba

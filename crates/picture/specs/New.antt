@@ -1,0 +1,26 @@
+-- A fresh picture (document 01, "Sizes and lent memory" and the order "new 1").
+--
+--   newNumberOf z ny nu nv    the number that `new` answers, from the size and the planes' lengths
+--   freshLuma, freshChroma    "A fresh picture has Y 0, U and V 128"
+--   newBuffersOf z y u v      what the three lent buffers hold after `new`
+use Prim.Native.Nat.{ℕ}
+use mathlib.Core.List.{List, [], _∷_}
+use lib.ListN.{length}
+use Rattle.lent.specs.Outcome.{lentAfter}
+use Rattle.lent.specs.Refusal.{refusal}
+use Rattle.picture.specs.declared.Size.{Size}
+use Rattle.picture.specs.Sizes.{planesShort, planeOf}
+
+abbrev pub newNumberOf : Size → ℕ → ℕ → ℕ → ℕ
+newNumberOf z ny nu nv = refusal ((planesShort z ny nu nv, 1) ∷ [])
+
+abbrev pub freshLuma : ℕ → ℕ → ℕ
+freshLuma r c = 0
+
+abbrev pub freshChroma : ℕ → ℕ → ℕ
+freshChroma r c = 128
+
+unfoldable pub newBuffersOf : Size → List ℕ → List ℕ → List ℕ → List (List ℕ)
+newBuffersOf z y u v =
+    let n = newNumberOf z (length y) (length u) (length v) in
+    lentAfter n y (planeOf z freshLuma y) ∷ lentAfter n u (planeOf z freshChroma u) ∷ lentAfter n v (planeOf z freshChroma v) ∷ []
