@@ -1,0 +1,37 @@
+-- `convert::put_row` meets its contract: an even row of an even number of rows has a row below it, which the filter reads.
+-- Assumes nothing.
+use native.Mathlib.Omega.{arith}
+use borrow.Author.Needs.{needs}
+use Rattle.lent.proofs.Cells.{row-in}
+use Rattle.convert.proofs.Rules.{two-rows}
+use Rattle.convert.proofs.put_row.Statement.{statement}
+use Rattle.convert.proofs.put_row.Tie as tie
+
+even-row-requires : tie.Need-even-row-requires
+even-row-requires c κs =
+    let a = c .before .before .before .before .before .before .args in
+    let fits = two-rows (a .stride) (a .rows) (a .row) (omega arith) (omega arith) (omega arith) in
+    (record { exact = search needs; inside = search needs; y-fits = omega arith; u-fits = omega arith; v-fits = omega arith }, search needs)
+
+odd-row-requires : tie.Need-odd-row-requires
+odd-row-requires c κs =
+    let a = c .before .before .before .before .before .before .args in
+    let fits = row-in (a .stride) (a .rows) (a .row) (omega arith) in
+    (record { exact = search needs; inside = search needs; y-fits = omega arith; u-fits = omega arith; v-fits = omega arith }, omega arith)
+
+same-length : tie.Need-same-length
+same-length c = search needs
+
+returns : tie.Need-returns
+returns c = search needs
+
+same-length-2 : tie.Need-same-length-2
+same-length-2 c = search needs
+
+returns-2 : tie.Need-returns-2
+returns-2 c = search needs
+
+pub put-row-spec : {M : Type 1} → statement M
+put-row-spec =
+    tie.close
+    (tie.spec even-row-requires odd-row-requires same-length returns same-length-2 returns-2)

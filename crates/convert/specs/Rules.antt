@@ -1,0 +1,30 @@
+-- The pixel at a row and a column (document 01, "Colour").
+--
+--   blockOf p stride r c            the 2x2 block of a plane: the sample at (r, c), then right, below, diagonal
+--   cornersAt p at below            the same, by the places where its two rows start
+--   chromaAt p stride r c           "filters U and V at pixels of even row and even column, and no others"
+--   pixelAt stride y u v            a pixel of the 4:4:4 picture
+--   viewPixelAt m luma chroma y u v a pixel of a view, by the colour matrix m: "no filter and uses chroma at row/2, column/2"; luma and
+--                                   chroma are the strides
+use Prim.Native.Nat.{ℕ, _+_, _/_, _%_}
+use mathlib.Core.Bool.{cond, _&&_}
+use mathlib.Core.List.{List, [], _∷_}
+use lib.Dec.{eqb}
+use lib.ListN.{getD}
+use Rattle.colour.specs.Colour.{reverseOf, filterOf}
+use Rattle.lent.specs.Samples.{sample}
+
+abbrev pub blockOf : List ℕ → ℕ → ℕ → ℕ → List ℕ
+blockOf p stride r c = sample p stride r c ∷ sample p stride r (c + 1) ∷ sample p stride (r + 1) c ∷ sample p stride (r + 1) (c + 1) ∷ []
+
+abbrev pub cornersAt : List ℕ → ℕ → ℕ → List ℕ
+cornersAt p at below = getD p at 0 ∷ getD p (at + 1) 0 ∷ getD p below 0 ∷ getD p (below + 1) 0 ∷ []
+
+unfoldable pub chromaAt : List ℕ → ℕ → ℕ → ℕ → ℕ
+chromaAt p stride r c = cond (eqb (r % 2) 0 && eqb (c % 2) 0) (filterOf (blockOf p stride r c)) (sample p stride r c)
+
+unfoldable pub pixelAt : ℕ → List ℕ → List ℕ → List ℕ → ℕ → ℕ → List ℕ
+pixelAt stride y u v r c = reverseOf (sample y stride r c) (chromaAt u stride r c) (chromaAt v stride r c)
+
+unfoldable pub viewPixelAt : (ℕ → ℕ → ℕ → List ℕ) → ℕ → ℕ → List ℕ → List ℕ → List ℕ → ℕ → ℕ → List ℕ
+viewPixelAt m luma chroma y u v r c = m (sample y luma r c) (sample u chroma (r / 2) (c / 2)) (sample v chroma (r / 2) (c / 2))
