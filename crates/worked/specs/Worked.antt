@@ -3,21 +3,45 @@
 --   Right l  what the line l says
 --   worked   the table
 --   All ls   each line of ls is right
+--   firstRows n cs   of 16 rows, the first n take the columns cs and the others none
 -- A further kind of line is a constructor of Line, a clause of Right and its lines in the table.
-use mathlib.Core.List.{List, [], _∷_}
+use mathlib.Core.List.{List, [], _∷_, _++_}
 use mathlib.Core.Path.{_≡_}
-use Prim.Native.Nat.{ℕ}
+use Prim.Native.Nat.{ℕ, zero, suc, _-_}
 use Rattle.colour.specs.Colour.{forwardOf, reverseOf, filteredOf}
+use Rattle.picture.specs.declared.Size.{Size}
+use Rattle.view.specs.declared.View.{View}
+use Rattle.combine.specs.Main.{mainLuma, mainChroma}
+use Rattle.combine.specs.Columns.{columnsTaken}
 
 pub data Line : Type 0 where
   -- "Colour, forward and back": r g b, then the y u v that it gives, then the r g b that this gives back
   colour : ℕ → ℕ → ℕ → ℕ → ℕ → ℕ → ℕ → ℕ → ℕ → Line
   -- "Filter (a, s)": a and s, then the answer
   filter : ℕ → ℕ → ℕ → Line
+  -- "Rectangles, 5x5 picture, 16x16 view": left, top, right, bottom, then the luma columns that each of the 16 rows takes from a main
+  -- view, and the chroma columns
+  rectangle : ℕ → ℕ → ℕ → ℕ → List (List ℕ) → List (List ℕ) → Line
+
+abbrev repeated : ℕ → List ℕ → List (List ℕ)
+repeated zero cs = []
+repeated (suc n) cs = cs ∷ repeated n cs
+
+abbrev pub firstRows : ℕ → List ℕ → List (List ℕ)
+firstRows n cs = repeated n cs ++ repeated (16 - n) []
+
+abbrev size5 : Size
+size5 = record { width = 5; height = 5 }
+
+abbrev view16 : View
+view16 = record { width = 16; height = 16; «luma_stride» = 16; «chroma_stride» = 8 }
 
 abbrev pub Right : Line → Type 0
 Right (colour r g b y u v r′ g′ b′) = (forwardOf r g b ≡ record { y = y; u = u; v = v }) × (reverseOf y u v ≡ r′ ∷ g′ ∷ b′ ∷ 255 ∷ [])
 Right (filter a s t) = filteredOf a s ≡ t
+Right (rectangle left top right bottom luma chroma) =
+    (columnsTaken 16 16 (mainLuma size5 view16 left top right bottom) ≡ luma)
+    × (columnsTaken 16 16 (mainChroma size5 view16 left top right bottom) ≡ chroma)
 
 abbrev pub All : List Line → Type 0
 All [] = Unit {0}
@@ -37,4 +61,8 @@ worked =
     ∷ filter 100 271 100
     ∷ filter 100 270 130
     ∷ filter 20 180 20
+    -- the rectangles: chroma columns 4 and 5 and no luma; nothing; luma columns 3 to 5, chroma 2 to 5
+    ∷ rectangle 5 0 5 4 (firstRows 0 []) (firstRows 4 (4 ∷ 5 ∷ []))
+    ∷ rectangle 4 0 4 4 (firstRows 0 []) (firstRows 0 [])
+    ∷ rectangle 3 0 6 2 (firstRows 2 (3 ∷ 4 ∷ 5 ∷ [])) (firstRows 2 (2 ∷ 3 ∷ 4 ∷ 5 ∷ []))
     ∷ []

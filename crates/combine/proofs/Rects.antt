@@ -1,0 +1,98 @@
+-- Rectangle lists, over any rule and any source: the loop over a list, order and repetition, and the widened area.
+-- Assumes nothing.
+use Prim.Native.Nat.{ℕ, _+_, _*_, _/_, _<_, _≤_, min}
+use native.Mathlib.Omega.{arith}
+use mathlib.Core.Path.{_≡_, refl, sym, ap, _∙_}
+use mathlib.Core.Bool.{Bool, true, false, true≢false}
+use mathlib.Core.Logic.{_↔_, _⊎_, inl, inr, ⊎-elim}
+use mathlib.Core.List.{List, [], _∷_}
+use lib.ListN.{length, getD}
+use Rattle.lent.specs.Paint.{painted, some}
+use Rattle.lent.specs.Sizes.{roundUp}
+use Rattle.lent.proofs.Bools.{split, never-true}
+use Rattle.lent.proofs.Lists.{some-none, some-more, some-facts, some-holds, some-same}
+use Rattle.lent.proofs.Painted.{painted-none, painted-ext}
+use Rattle.lent.proofs.Taken.{box-facts, box-holds}
+use Rattle.picture.specs.declared.Size.{Size}
+use Rattle.combine.specs.declared.Rect.{Rect}
+use Rattle.combine.specs.Rects.{Rule, rectAtOf, by, nth, takenBy, taken, area}
+
+-- ---- the loop over a list: the plane is painted by what the first n rectangles take
+
+module _ (w h : ℕ) (rule : Rule) (rects : List ℕ) (s : ℕ → ℕ → ℕ) (xs : List ℕ) where
+  pub rects-none : xs ≡ painted w h (takenBy rule rects 0) s xs
+  unfolding takenBy
+  rects-none = some-none w h (nth rule rects) s xs
+
+  -- rectangle n was served, where those before it were
+  pub rects-more : {was is : List ℕ} (n : ℕ) (rect : Rect) → rect ≡ rectAtOf rects n → was ≡ painted w h (takenBy rule rects n) s xs
+      → is ≡ painted w h (by rule rect) s was
+      → is ≡ painted w h (takenBy rule rects (n + 1)) s xs
+  unfolding takenBy nth
+  rects-more n rect this before more =
+      more ∙ (λ i. painted w h (by rule (this i)) s (before i)) ∙ some-more w h (nth rule rects) s xs n
+
+  pub rects-all : {is : List ℕ} (n : ℕ) → n ≡ length rects / 4 → is ≡ painted w h (takenBy rule rects n) s xs → is ≡ painted w h (taken rule rects) s xs
+  rects-all n all done = done ∙ ap (λ (m : ℕ). painted w h (takenBy rule rects m) s xs) all
+
+-- ---- what `taken` means
+
+module _ (rule : Rule) (rects : List ℕ) (r c : ℕ) where
+  pub taken-facts : taken rule rects r c ≡ true → (i : ℕ) × ((i < length rects / 4) × (nth rule rects i r c ≡ true))
+  unfolding takenBy
+  taken-facts e = some-facts (length rects / 4) (λ i. nth rule rects i r c) e
+
+  pub taken-holds : (i : ℕ) → i < length rects / 4 → nth rule rects i r c ≡ true → taken rule rects r c ≡ true
+  unfolding takenBy
+  taken-holds i lt e = some-holds (length rects / 4) (λ i. nth rule rects i r c) i lt e
+
+-- each rectangle of one list is in the other
+abbrev pub AllIn : List ℕ → List ℕ → Type 0
+AllIn ps qs = (i : ℕ) → i < length ps / 4 → (j : ℕ) × ((j < length qs / 4) × (rectAtOf ps i ≡ rectAtOf qs j))
+
+-- order and repetition have no effect: two lists of the same rectangles take the same samples
+pub taken-same : (rule : Rule) (ps qs : List ℕ) → AllIn ps qs → AllIn qs ps → (r c : ℕ) → taken rule ps r c ≡ taken rule qs r c
+unfolding takenBy nth
+taken-same rule ps qs f g r c =
+    some-same (length ps / 4) (length qs / 4) (λ i. nth rule ps i r c) (λ j. nth rule qs j r c)
+    (λ i lt. let m = f i lt in (m .0, (m .1 .0, sym (ap (λ (x : Rect). by rule x r c) (m .1 .1)))))
+    (λ j lt. let m = g j lt in (m .0, (m .1 .0, sym (ap (λ (x : Rect). by rule x r c) (m .1 .1)))))
+
+-- ---- what a list leaves, whatever the rule and the source
+
+module _ (w h : ℕ) (rule : Rule) (s : ℕ → ℕ → ℕ) (xs : List ℕ) where
+  -- order and repetition have no effect
+  pub list-same : (ps qs : List ℕ) → AllIn ps qs → AllIn qs ps → painted w h (taken rule ps) s xs ≡ painted w h (taken rule qs) s xs
+  list-same ps qs f g = painted-ext w h _ _ s s xs (λ r c hr hc. taken-same rule ps qs f g r c) (λ r c hr hc e. refl)
+
+  -- a list of which no rectangle takes anything changes nothing
+  pub list-none : (rects : List ℕ) → ((i r c : ℕ) → i < length rects / 4 → nth rule rects i r c ≡ true → ⊥) → xs ≡ painted w h (taken rule rects) s xs
+  list-none rects f =
+      painted-none w h _ s xs (λ r c hr hc. never-true _ (λ e. let m = taken-facts rule rects r c e in f (m .0) r c (m .1 .0) (m .1 .1)))
+
+  -- an empty list changes nothing
+  pub list-empty : xs ≡ painted w h (taken rule []) s xs
+  list-empty = rects-none w h rule [] s xs
+
+  -- a list of one rectangle takes what the rule says of it
+  pub list-one : (left top right bottom : ℕ) → painted w h (taken rule (left ∷ top ∷ right ∷ bottom ∷ [])) s xs ≡ painted w h (rule left top right bottom) s xs
+  list-one left top right bottom = sym (rects-more w h rule (left ∷ top ∷ right ∷ bottom ∷ []) s xs 0 _ refl (rects-none w h rule _ s xs) refl)
+
+-- ---- the widened area
+
+module _ (z : Size) (left top right bottom : ℕ) where
+  pub area-facts : (r c : ℕ) → area z left top right bottom r c ≡ true
+      → (top / 2 * 2 ≤ r) × (r < roundUp 2 (min bottom (z .height))) × (left / 2 * 2 ≤ c) × (c < roundUp 2 (min right (z .width)))
+  area-facts r c e = box-facts _ _ _ _ r c e
+
+  pub area-holds : (r c : ℕ) → top / 2 * 2 ≤ r → r < roundUp 2 (min bottom (z .height)) → left / 2 * 2 ≤ c → c < roundUp 2 (min right (z .width))
+      → area z left top right bottom r c ≡ true
+  area-holds r c t b l h = box-holds _ _ _ _ r c t b l h
+
+  -- it is empty unless left < right and top < bottom after rounding
+  pub area-empty : ((r c : ℕ) → area z left top right bottom r c ≡ false)
+      ↔ ((roundUp 2 (min right (z .width)) ≤ left / 2 * 2) ⊎ (roundUp 2 (min bottom (z .height)) ≤ top / 2 * 2))
+  area-empty = (
+    λ none. ⊎-elim (λ l. ⊎-elim (λ t. absurd (true≢false (sym (area-holds _ _ (omega arith) t (omega arith) l) ∙ none (top / 2 * 2) (left / 2 * 2)))) inr (split (top / 2 * 2) _)) inl (split (left / 2 * 2) _),
+    λ edges r c. never-true _ (λ e. ⊎-elim (λ h. omega (arith, area-facts r c e)) (λ h. omega (arith, area-facts r c e)) edges),
+  )
