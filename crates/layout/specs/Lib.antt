@@ -1,0 +1,4 @@
+-- Where chroma samples live in the auxiliary view, and which exist.
+pub mod Maps
+pub mod Exists
+pub mod Fed

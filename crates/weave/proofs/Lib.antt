@@ -1,0 +1,3 @@
+-- The laws of every second column.
+pub mod Turns
+pub mod Columns
