@@ -12,6 +12,7 @@ pub mod ours;
 pub mod outcome;
 pub mod progress;
 pub mod random;
+pub mod record;
 pub mod run;
 pub mod suites;
 pub mod table;

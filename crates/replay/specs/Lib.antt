@@ -1,0 +1,3 @@
+-- Fields of a stored input, and the checksum.
+pub mod Fields
+pub mod Checksum

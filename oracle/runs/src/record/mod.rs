@@ -1,0 +1,56 @@
+//! The stored input and output of the replay programs: cases from a seed, and the Rust original's answers as text.
+//!
+//! Nothing here calls the library.
+
+mod payloads;
+mod views;
+
+use std::fmt::Write;
+
+/// What a replay program is run on, and what it has to write.
+pub struct Sample {
+    /// The program's crate.
+    pub program: &'static str,
+    pub cases: usize,
+    pub stdin: Vec<u8>,
+    pub stdout: String,
+}
+
+/// The samples of a seed, one for each program.
+pub fn samples(seed: u64) -> Vec<Sample> {
+    vec![payloads::sample(seed), views::sample(seed)]
+}
+
+/// Adler-32 (RFC 1950), which the programs take too.
+fn checksum(bytes: &[u8]) -> u32 {
+    let (mut a, mut b) = (1, 0);
+    for byte in bytes {
+        a = (a + u32::from(*byte)) % 65521;
+        b = (b + a) % 65521;
+    }
+    b << 16 | a
+}
+
+/// Bytes in hexadecimal, two digits each.
+fn hex(bytes: &[u8]) -> String {
+    bytes.iter().fold(String::new(), |mut text, byte| {
+        write!(text, "{byte:02x}").expect("a string takes all that is written");
+        text
+    })
+}
+
+/// A number as a little-endian field of two bytes.
+fn two(number: usize) -> [u8; 2] {
+    u16::try_from(number).expect("a field of two bytes").to_le_bytes()
+}
+
+#[cfg(test)]
+mod tests {
+    use super::checksum;
+
+    #[test]
+    fn the_checksum_is_adler_32() {
+        assert_eq!(checksum(b""), 1);
+        assert_eq!(checksum(b"Wikipedia"), 0x11E6_0398);
+    }
+}
