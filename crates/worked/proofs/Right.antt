@@ -1,11 +1,23 @@
 -- Every line of the table is right, by computation. Assumes nothing.
-use borrow.Author.Needs.{needs}
+use mathlib.Core.Path.{refl}
 use Rattle.colour.specs.Colour.{lumaWhole, chromaUWhole, chromaVWhole, lumaOf, chromaUOf, chromaVOf, forwardOf, redOf, greenOf, blueOf, reverseOf, reversed, filteredOf}
 use Rattle.lent.specs.Paint.{within, box, upTo}
 use Rattle.combine.specs.Main.{mainLuma, mainChroma}
 use Rattle.combine.specs.Columns.{thoseBelow, columnsTaken}
 use Rattle.worked.specs.Worked.{worked, All}
 
+-- one line after the other
+infixr 4 _then_
+_then_ : {A B : Type 0} → A → B → A × B
+a then b = (a, b)
+
 pub worked-right : All worked
 unfolding worked lumaWhole chromaUWhole chromaVWhole lumaOf chromaUOf chromaVOf forwardOf redOf greenOf blueOf reverseOf reversed filteredOf mainLuma mainChroma upTo box within thoseBelow columnsTaken
-worked-right = search needs
+worked-right =
+    -- colours: there, and back
+    (refl, refl) then (refl, refl) then (refl, refl) then (refl, refl) then (refl, refl)
+    -- the filter
+    then refl then refl then refl then refl then refl
+    -- rectangles: luma, and chroma
+    then (refl, refl) then (refl, refl) then (refl, refl)
+    then tt
