@@ -1,7 +1,6 @@
 -- The laws of the words in specs/: start at Rects.antt and Number.antt.
 pub mod Rects
 pub mod Number
-pub mod Ends
 pub mod Rows
 pub mod Main
 pub mod MainLaws

@@ -21,7 +21,7 @@ use Rattle.view.specs.View.{lumaOf, chromaOf}
 use Rattle.combine.specs.Rects.{area}
 use Rattle.combine.specs.Main.{mainLuma, mainChroma, lumaAfter, chromaAfter, mainNumberOf, MainOutcome}
 use Rattle.combine.specs.Fits.{RectFits, RowsFit}
-use Rattle.combine.proofs.Ends.{answer-none, lent-refused, lent-done}
+use Rattle.lent.proofs.Ends.{answer-none, lent-refused, lent-done}
 use Rattle.combine.proofs.Rects.{area-facts, area-holds}
 use Rattle.combine.proofs.Rows.{upTo-facts, upTo-holds}
 

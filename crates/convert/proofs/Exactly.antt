@@ -6,9 +6,9 @@ use mathlib.Core.Bool.{Bool, true, false}
 use mathlib.Core.Logic.{_↔_, Iff·rfl, Iff·symm, Iff·trans, Iff·and, true-and, and-true}
 use mathlib.Core.List.{List, [], _∷_, _++_}
 use lib.Dec.{ltb}
-use borrow.Author.Tests.{ltb-true, ltb-false, lt-ltb, le-ltb}
 use Rattle.lent.specs.Refusal.{refusal}
-use Rattle.lent.proofs.Refusal.{refusal-exactly, refusal-none}
+use Rattle.lent.proofs.Exactly.{below, not-below}
+use Rattle.lent.proofs.Refusal.{refusal-exactly, refusal-none, refusal-first}
 use Rattle.picture.specs.declared.Size.{Size}
 use Rattle.picture.specs.Sizes.{planesShort}
 use Rattle.view.specs.declared.View.{View}
@@ -17,19 +17,6 @@ use Rattle.view.proofs.Exactly.{view-0-exactly}
 use Rattle.convert.specs.Picture.{toRgbaNumberOf}
 use Rattle.convert.specs.View.{viewToRgbaNumberOf}
 
--- tests that refuse are not reached by those after them
-refusal-first : (tests more : List (Bool × ℕ)) → (refusal tests ≡ 0 → ⊥) → refusal (tests ++ more) ≡ refusal tests
-refusal-first [] more some = absurd (some refl)
-refusal-first ((true, n) ∷ tests) more some = refl
-refusal-first ((false, n) ∷ tests) more some = refusal-first tests more some
-
--- an output that is too short, and one that is not
-short : (a b : ℕ) → (ltb a b ≡ true) ↔ (a < b)
-short a b = (ltb-true a b, lt-ltb a b)
-
-room : (a b : ℕ) → (ltb a b ≡ false) ↔ (b ≤ a)
-room a b = (ltb-false a b, le-ltb a b)
-
 module _ (z : Size) (count ny nu nv nout : ℕ) where
   pub rgba-1-exactly : (toRgbaNumberOf z count ny nu nv nout ≡ 1) ↔ (planesShort z ny nu nv ≡ true)
   unfolding toRgbaNumberOf
@@ -37,11 +24,11 @@ module _ (z : Size) (count ny nu nv nout : ℕ) where
 
   pub rgba-6-exactly : (toRgbaNumberOf z count ny nu nv nout ≡ 6) ↔ ((planesShort z ny nu nv ≡ false) × (nout < count))
   unfolding toRgbaNumberOf
-  rgba-6-exactly = Iff·trans (refusal-exactly (ltb nout count) 6 [] tt (λ e. omega arith) ((planesShort z ny nu nv, 1) ∷ []) tt) (Iff·and and-true (short nout count))
+  rgba-6-exactly = Iff·trans (refusal-exactly (ltb nout count) 6 [] tt (λ e. omega arith) ((planesShort z ny nu nv, 1) ∷ []) tt) (Iff·and and-true (below nout count))
 
   pub rgba-0-exactly : (toRgbaNumberOf z count ny nu nv nout ≡ 0) ↔ ((planesShort z ny nu nv ≡ false) × (count ≤ nout))
   unfolding toRgbaNumberOf
-  rgba-0-exactly = Iff·trans (refusal-none ((planesShort z ny nu nv, 1) ∷ (ltb nout count, 6) ∷ []) tt) (Iff·and Iff·rfl (Iff·trans and-true (room nout count)))
+  rgba-0-exactly = Iff·trans (refusal-none ((planesShort z ny nu nv, 1) ∷ (ltb nout count, 6) ∷ []) tt) (Iff·and Iff·rfl (Iff·trans and-true (not-below nout count)))
 
 -- the numbers of a view, and then 6
 module _ (w : View) (count ny nu nv nout : ℕ) where
@@ -58,15 +45,15 @@ module _ (w : View) (count ny nu nv nout : ℕ) where
 
   pub view-rgba-6-exactly : (viewToRgbaNumberOf w count ny nu nv nout ≡ 6) ↔ ((viewNumberOf w ny nu nv ≡ 0) × (nout < count))
   unfolding viewToRgbaNumberOf
-  view-rgba-6-exactly = Iff·trans (refusal-exactly (ltb nout count) 6 [] tt (λ e. omega arith) ((narrow w, 3) ∷ (planeShort w ny nu nv, 4) ∷ []) tt) (Iff·and (Iff·trans (Iff·and Iff·rfl and-true) accepted) (short nout count))
+  view-rgba-6-exactly = Iff·trans (refusal-exactly (ltb nout count) 6 [] tt (λ e. omega arith) ((narrow w, 3) ∷ (planeShort w ny nu nv, 4) ∷ []) tt) (Iff·and (Iff·trans (Iff·and Iff·rfl and-true) accepted) (below nout count))
 
   pub view-rgba-0-exactly : (viewToRgbaNumberOf w count ny nu nv nout ≡ 0) ↔ ((viewNumberOf w ny nu nv ≡ 0) × (count ≤ nout))
   unfolding viewToRgbaNumberOf
   view-rgba-0-exactly = (
     λ e. let f = refusal-none ((narrow w, 3) ∷ (planeShort w ny nu nv, 4) ∷ (ltb nout count, 6) ∷ []) tt .0 e in
-        (accepted .0 (f .0, f .1 .0), room nout count .0 (f .1 .1 .0)),
+        (accepted .0 (f .0, f .1 .0), not-below nout count .0 (f .1 .1 .0)),
     λ h. let f = accepted .1 (h .0) in
-        refusal-none ((narrow w, 3) ∷ (planeShort w ny nu nv, 4) ∷ (ltb nout count, 6) ∷ []) tt .1 (f .0, (f .1, (room nout count .1 (h .1), tt))),
+        refusal-none ((narrow w, 3) ∷ (planeShort w ny nu nv, 4) ∷ (ltb nout count, 6) ∷ []) tt .1 (f .0, (f .1, (not-below nout count .1 (h .1), tt))),
   )
 
   -- a view that is refused on its own is refused with that number

@@ -11,3 +11,5 @@ pub mod Samples
 pub mod Pixels
 pub mod Refusal
 pub mod Outcome
+pub mod Ends
+pub mod Exactly

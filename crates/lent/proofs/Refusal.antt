@@ -57,3 +57,9 @@ refusal-none tests f = (none tests f, zero tests)
     zero [] h = refl
     zero ((true, m) ∷ rest) h = absurd (true≢false (h .0))
     zero ((false, m) ∷ rest) h = zero rest (h .1)
+
+-- tests that refuse are not reached by those after them
+pub refusal-first : (tests more : List (Bool × ℕ)) → (refusal tests ≡ 0 → ⊥) → refusal (tests ++ more) ≡ refusal tests
+refusal-first [] more some = absurd (some refl)
+refusal-first ((true, n) ∷ tests) more some = refl
+refusal-first ((false, n) ∷ tests) more some = refusal-first tests more some

@@ -6,6 +6,7 @@ use mathlib.Core.Bool.{Bool, true, false, _||_, true≢false}
 use borrow.Author.Tests.{ltb-false}
 use Rattle.lent.specs.Sizes.{tooShort}
 use Rattle.lent.proofs.Bools.{or-left, or-right}
+use Rattle.lent.proofs.Exactly.{nor}
 use Rattle.picture.specs.declared.Size.{Size}
 use Rattle.picture.specs.Sizes.{strideOf, rowsOf, planesShort, PlanesFit}
 
@@ -13,15 +14,11 @@ use Rattle.picture.specs.Sizes.{strideOf, rowsOf, planesShort, PlanesFit
 pub plane-small : {rows stride : ℕ} → rows ≤ 65536 → stride ≤ 65536 → rows * stride ≤ 4294967296
 plane-small {rows} {stride} r s = le-trans (mul-le-mul-left rows s) (mul-le-mul-right 65536 r)
 
-neither : (a b : Bool) → (a || b) ≡ false → (a ≡ false) × (b ≡ false)
-neither true b e = absurd (true≢false e)
-neither false b e = (refl, e)
-
 pub planes-fit : (z : Size) (ny nu nv : ℕ) → planesShort z ny nu nv ≡ false → PlanesFit z ny nu nv
 unfolding planesShort
 planes-fit z ny nu nv e =
-    let yu = neither (tooShort (strideOf z) (rowsOf z) ny || tooShort (strideOf z) (rowsOf z) nu) _ e in
-    let y = neither (tooShort (strideOf z) (rowsOf z) ny) _ (yu .0) in
+    let yu = nor (tooShort (strideOf z) (rowsOf z) ny || tooShort (strideOf z) (rowsOf z) nu) _ .0 e in
+    let y = nor (tooShort (strideOf z) (rowsOf z) ny) _ .0 (yu .0) in
     record { y-fits = ltb-false _ _ (y .0); u-fits = ltb-false _ _ (y .1); v-fits = ltb-false _ _ (yu .1) }
 
 -- one short plane is enough, and the code tests them one after the other

@@ -9,32 +9,10 @@ use mathlib.Core.List.{[], _∷_}
 use lib.Dec.{ltb}
 use borrow.Author.Tests.{ltb-true, ltb-false, lt-ltb, le-ltb}
 use Rattle.lent.specs.Sizes.{halfUp}
-use Rattle.lent.proofs.Bools.{either, or-left, or-right}
+use Rattle.lent.proofs.Exactly.{below, not-below, or-exactly, nor-exactly}
 use Rattle.lent.proofs.Refusal.{refusal-exactly, refusal-none}
 use Rattle.view.specs.declared.View.{View}
 use Rattle.view.specs.View.{lumaOf, chromaOf, narrow, planeShort, viewNumberOf, PlaneFits, ViewFits}
-
--- ---- tests as facts: a test of two tests holds where one of them does, and fails where both do
-
-below : (a b : ℕ) → (ltb a b ≡ true) ↔ (a < b)
-below a b = (ltb-true a b, lt-ltb a b)
-
-not-below : (a b : ℕ) → (ltb a b ≡ false) ↔ (b ≤ a)
-not-below a b = (ltb-false a b, le-ltb a b)
-
-module _ (s t : Bool) {P Q : Type 0} where
-  pub or-exactly : (s ≡ true) ↔ P → (t ≡ true) ↔ Q → ((s || t) ≡ true) ↔ (P ⊎ Q)
-  or-exactly f g = (
-    λ e. ⊎-elim (λ h. inl (f .0 h)) (λ h. inr (g .0 h)) (either s t e),
-    ⊎-elim (λ h. or-left s t (f .1 h)) (λ h. or-right s t (g .1 h)),
-  )
-
-nor : (s t : Bool) → ((s || t) ≡ false) ↔ ((s ≡ false) × (t ≡ false))
-nor true t = (λ e. absurd (true≢false e), λ h. h .0)
-nor false t = (λ e. (refl, e), λ h. h .1)
-
-pub nor-exactly : (s t : Bool) {P Q : Type 0} → (s ≡ false) ↔ P → (t ≡ false) ↔ Q → ((s || t) ≡ false) ↔ (P × Q)
-nor-exactly s t f g = Iff·trans (nor s t) (Iff·and f g)
 
 module _ (w : View) where
   pub narrow-exactly : (narrow w ≡ true) ↔ ((w .«luma_stride» < w .width) ⊎ (w .«chroma_stride» < halfUp (w .width)))
