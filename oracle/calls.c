@@ -22,6 +22,22 @@ Row haythaw_luma_row(uint16_t view_width, uint16_t view_height, size_t luma_stri
                      const uint8_t *view_v, size_t view_v_count, size_t row);
 bool haythaw_is_avc_format(const uint8_t *data, size_t data_count);
 Answer haythaw_avc_to_annex_b(const uint8_t *data, size_t data_count, uint8_t *out, size_t out_count);
+size_t haythaw_allocation_size(uint16_t width, uint16_t height);
+uint32_t haythaw_new(uint16_t width, uint16_t height, uint8_t *y, size_t y_count, uint8_t *u, size_t u_count,
+                     uint8_t *v, size_t v_count);
+uint32_t haythaw_from_rgba(const uint8_t *rgba, size_t rgba_count, uint16_t width, uint16_t height,
+                           uint8_t *y, size_t y_count, uint8_t *u, size_t u_count, uint8_t *v, size_t v_count);
+Answer haythaw_to_rgba(uint16_t width, uint16_t height, const uint8_t *y, size_t y_count, const uint8_t *u, size_t u_count,
+                       const uint8_t *v, size_t v_count, uint16_t left, uint16_t top, uint16_t right, uint16_t bottom,
+                       uint8_t *out, size_t out_count);
+Answer haythaw_view_to_rgba(uint16_t view_width, uint16_t view_height, size_t luma_stride, size_t chroma_stride,
+                            const uint8_t *view_y, size_t view_y_count, const uint8_t *view_u, size_t view_u_count,
+                            const uint8_t *view_v, size_t view_v_count, uint8_t *out, size_t out_count);
+uint32_t haythaw_apply_main_view(uint16_t width, uint16_t height, uint8_t *y, size_t y_count, uint8_t *u, size_t u_count,
+                                 uint8_t *v, size_t v_count, const uint16_t *rects, size_t rects_count,
+                                 uint16_t view_width, uint16_t view_height, size_t luma_stride, size_t chroma_stride,
+                                 const uint8_t *view_y, size_t view_y_count, const uint8_t *view_u, size_t view_u_count,
+                                 const uint8_t *view_v, size_t view_v_count);
 
 static int wrong;
 
@@ -70,10 +86,52 @@ static void try_payload(void)
     expect("Annex B, an answer", whole.number == 0 && whole.count == 6 && memcmp(out, annex_b, 6) == 0);
 }
 
+/* A picture of 2 by 1 with planes of 256 bytes. */
+static void try_picture(void)
+{
+    static uint8_t y[256], u[256], v[256];
+    expect("allocation size, a size", haythaw_allocation_size(65535, 65535) == (size_t)3 << 32);
+
+    memset(y, 1, 256);
+    expect("new, a refusal", haythaw_new(2, 1, y, 256, u, 256, v, 255) == 1 && y[0] == 1 && u[0] == 0);
+    expect("new, a number", haythaw_new(2, 1, y, 256, u, 256, v, 256) == 0 && y[0] == 0 && u[255] == 128 && v[0] == 128);
+
+    const uint8_t rgba[8] = {255, 0, 0, 255, 0, 255, 0, 255};
+    expect("from RGBA, a refusal", haythaw_from_rgba(rgba, 7, 2, 1, y, 256, u, 256, v, 256) == 2);
+    expect("from RGBA, a number", haythaw_from_rgba(rgba, 8, 2, 1, y, 256, u, 256, v, 256) == 0);
+    expect("from RGBA, a picture", y[0] == 53 && y[1] == 182 && u[0] == 96 && u[1] == 29 && v[0] == 131 && v[1] == 12);
+
+    uint8_t out[8] = {0};
+    const uint8_t pixels[8] = {252, 0, 0, 255, 0, 254, 0, 255};
+    Answer short_by_one = haythaw_to_rgba(2, 1, y, 256, u, 256, v, 256, 0, 0, 9, 9, out, 7);
+    expect("picture to RGBA, a refusal", short_by_one.number == 6 && short_by_one.count == 0);
+    Answer whole = haythaw_to_rgba(2, 1, y, 256, u, 256, v, 256, 0, 0, 9, 9, out, 8);
+    expect("picture to RGBA, an answer", whole.number == 0 && whole.count == 8 && memcmp(out, pixels, 8) == 0);
+}
+
+/* A view of 1 by 1 goes into a picture of 2 by 1, and to RGBA. */
+static void try_view_and_picture(void)
+{
+    static uint8_t y[256], u[256], v[256];
+    const uint8_t view_y[1] = {53}, view_u[1] = {99}, view_v[1] = {255}, pixel[4] = {252, 0, 0, 255};
+    const uint16_t rects[4] = {0, 0, 2, 1};
+    expect("main view, a refusal",
+           haythaw_apply_main_view(2, 1, y, 256, u, 256, v, 256, rects, 3, 1, 1, 1, 1, view_y, 1, view_u, 1, view_v, 1) == 7);
+    expect("main view, a number",
+           haythaw_apply_main_view(2, 1, y, 256, u, 256, v, 256, rects, 4, 1, 1, 1, 1, view_y, 1, view_u, 1, view_v, 1) == 0);
+    expect("main view, a picture", y[0] == 53 && y[1] == 0 && u[0] == 99 && u[1] == 0 && u[16] == 0 && v[0] == 255);
+
+    uint8_t out[4] = {0};
+    Answer answer = haythaw_view_to_rgba(1, 1, 1, 1, view_y, 1, view_u, 1, view_v, 1, out, 4);
+    expect("view to RGBA, an answer", answer.number == 0 && answer.count == 4 && memcmp(out, pixel, 4) == 0);
+}
+
 int main(void)
 {
     try_bytes();
     try_view();
     try_payload();
+    try_picture();
+    try_view_and_picture();
     return wrong;
 }

@@ -1,4 +1,4 @@
-//! Times a call of the library and the same call of the original.
+//! Times a call of the library and the same call of the original, and two calls of the library.
 
 use std::hint::black_box;
 use std::time::{Duration, Instant};
@@ -8,6 +8,8 @@ pub struct Bench {
     pub name: &'static str,
     /// What it is timed on, in words.
     pub input: &'static str,
+    /// What the ratio is to be at most, if that is laid down.
+    pub bound: Option<f64>,
     /// Makes the input and both sides over it.
     pub sides: fn() -> Sides,
 }
@@ -18,6 +20,17 @@ pub struct Sides {
     pub calls: u64,
     pub ours: Box<dyn FnMut() -> u64>,
     pub theirs: Box<dyn FnMut() -> u64>,
+}
+
+impl Sides {
+    /// So many calls of each side in a pass, one after the other.
+    pub fn repeated(calls: u64, mut ours: Pass, mut theirs: impl FnMut() -> u64 + 'static) -> Self {
+        Self {
+            calls,
+            ours: Box::new(move || (0..calls).map(|_| (ours.run)()).sum()),
+            theirs: Box::new(move || (0..calls).map(|_| theirs()).sum()),
+        }
+    }
 }
 
 /// The least times of the two sides.
@@ -44,8 +57,57 @@ impl Bench {
     }
 }
 
+/// A call of the library on two inputs, to weigh the times against each other.
+pub struct Weighing {
+    pub name: &'static str,
+    /// The first input against the second, in words.
+    pub input: &'static str,
+    /// What the ratio of the times a pixel is to be at most.
+    pub bound: f64,
+    pub passes: fn() -> [Pass; 2],
+}
+
+/// A call of the library over so many pixels. It answers a sum of what it was answered.
+pub struct Pass {
+    pub pixels: u64,
+    pub run: Box<dyn FnMut() -> u64>,
+}
+
+impl Pass {
+    pub fn new(pixels: u64, run: impl FnMut() -> u64 + 'static) -> Self {
+        Self { pixels, run: Box::new(run) }
+    }
+}
+
+/// What `scale` weighs, in words.
+pub const SCALES: &str = "3840x2160 against 640x480";
+
+/// The same call on a large and on a small picture. In turns, so the small one finds the caches as cold as the large one does.
+pub fn scale(pass: impl Fn(u16, u16) -> Pass) -> [Pass; 2] {
+    [pass(3840, 2160), pass(640, 480)]
+}
+
+impl Weighing {
+    /// Runs both in turns: the least nanoseconds a pixel of each.
+    pub fn run(&self, rounds: u32) -> [f64; 2] {
+        let mut passes = (self.passes)();
+        let mut least = [Duration::MAX; 2];
+        for _ in 0..rounds {
+            for (pass, least) in passes.iter_mut().zip(&mut least) {
+                *least = timed(&mut pass.run).1.min(*least);
+            }
+        }
+        [0, 1].map(|pass| least[pass].as_secs_f64() * 1e9 / passes[pass].pixels as f64)
+    }
+}
+
 fn timed(pass: &mut dyn FnMut() -> u64) -> (u64, Duration) {
     let began = Instant::now();
     let sum = black_box(pass());
     (sum, began.elapsed())
+}
+
+/// A sum over a few of the bytes that a call left.
+pub fn sample(bytes: &[u8]) -> u64 {
+    bytes.iter().step_by(65_521).map(|&byte| u64::from(byte)).sum()
 }

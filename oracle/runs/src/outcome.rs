@@ -21,6 +21,15 @@ impl Lent {
         Self { bytes, lent: GUARD..GUARD + length }
     }
 
+    /// A buffer of these bytes.
+    pub fn holding(bytes: &[u8]) -> Self {
+        let guard = |first: u8| (first..).take(GUARD);
+        Self {
+            bytes: guard(0xA5).chain(bytes.iter().copied()).chain(guard(0x5A)).collect(),
+            lent: GUARD..GUARD + bytes.len(),
+        }
+    }
+
     /// What is lent: all but the guard bytes.
     pub fn lent(&mut self) -> &mut [u8] {
         &mut self.bytes[self.lent.clone()]
@@ -38,6 +47,24 @@ pub struct Outcome {
     pub number: u32,
     pub count: usize,
     pub buffers: Vec<Vec<u8>>,
+}
+
+impl Outcome {
+    /// How a call ends that writes these bytes to the front of an output: one that is too short is refused with 6.
+    pub fn written(bytes: &[u8], mut output: Lent) -> Self {
+        match output.lent().get_mut(..bytes.len()) {
+            Some(front) => {
+                front.copy_from_slice(bytes);
+                Self { number: 0, count: bytes.len(), buffers: vec![output.whole()] }
+            }
+            None => Self::unwritten(6, vec![output.whole()]),
+        }
+    }
+
+    /// How a call ends that is refused with a number: all that was lent is as it was.
+    pub fn unwritten(number: u32, buffers: Vec<Vec<u8>>) -> Self {
+        Self { number, count: 0, buffers }
+    }
 }
 
 impl Answer for Outcome {

@@ -1,10 +1,10 @@
-//! Times each call of the library and of the Rust original on the same input.
+//! Times each call of the library and of the Rust original on the same input, and some calls of the library on two inputs.
 
 use std::fs;
 use std::process::{Command, ExitCode};
 use std::time::Duration;
 
-use runs::suites::BENCHES;
+use runs::suites::{BENCHES, WEIGHINGS};
 use runs::table::aligned;
 
 const ROUNDS: u32 = 41;
@@ -26,22 +26,55 @@ fn main() -> ExitCode {
     println!("calls: each side is called through a function that is never inlined, so that the two are alike");
     println!("buffers: none is cleared between runs");
     println!("allocations: the original's times include its own; the library makes none. Where that matters, the row says so");
-    let mut rows =
-        vec![["call", "input", "ours, ms", "original, ms", "ratio", "ours, ns a call"].map(str::to_owned).to_vec()];
-    for bench in BENCHES.iter().filter(|bench| only.as_ref().is_none_or(|name| bench.name == name)) {
+    let wanted = |name: &str| only.as_ref().is_none_or(|only| only == name);
+    print!("{}", aligned(&beside_the_original(wanted)));
+    println!("\nthe library on one input against itself on another, in nanoseconds a pixel; ratio: first / second");
+    print!("{}", aligned(&against_itself(wanted)));
+    ExitCode::SUCCESS
+}
+
+fn beside_the_original(wanted: impl Fn(&str) -> bool) -> Vec<Vec<String>> {
+    let head = ["call", "input", "ours, ms", "original, ms", "ratio", "bound", "ours, ns a call"];
+    let mut rows = vec![head.map(str::to_owned).to_vec()];
+    for bench in BENCHES.iter().filter(|bench| wanted(bench.name)) {
         eprintln!("{} ...", bench.name);
         let times = bench.run(ROUNDS);
+        let ratio = times.ours.as_secs_f64() / times.theirs.as_secs_f64();
         rows.push(vec![
             bench.name.to_owned(),
             bench.input.to_owned(),
             milliseconds(times.ours),
             milliseconds(times.theirs),
-            format!("{:.2}", times.ours.as_secs_f64() / times.theirs.as_secs_f64()),
+            format!("{ratio:.2}"),
+            bench.bound.map_or("none".to_owned(), |bound| held(ratio, bound)),
             format!("{:.1}", times.ours.as_secs_f64() * 1e9 / times.calls as f64),
         ]);
     }
-    print!("{}", aligned(&rows));
-    ExitCode::SUCCESS
+    rows
+}
+
+fn against_itself(wanted: impl Fn(&str) -> bool) -> Vec<Vec<String>> {
+    let mut rows =
+        vec![["call", "first against second", "first", "second", "ratio", "bound"].map(str::to_owned).to_vec()];
+    for weighing in WEIGHINGS.iter().filter(|weighing| wanted(weighing.name)) {
+        eprintln!("{}, {} ...", weighing.name, weighing.input);
+        let [first, second] = weighing.run(ROUNDS);
+        rows.push(vec![
+            weighing.name.to_owned(),
+            weighing.input.to_owned(),
+            format!("{first:.3}"),
+            format!("{second:.3}"),
+            format!("{:.2}", first / second),
+            held(first / second, weighing.bound),
+        ]);
+    }
+    rows
+}
+
+/// A bound, and whether a ratio is above it.
+fn held(ratio: f64, bound: f64) -> String {
+    let above = if ratio > bound { " ABOVE" } else { "" };
+    format!("{bound:.2}{above}")
 }
 
 fn milliseconds(time: Duration) -> String {

@@ -2,10 +2,18 @@
 //!
 //! A slice passes as a pointer and an element count, its own.
 
+mod answer;
 mod colour;
+mod combine;
+mod convert;
 mod payload;
+mod picture;
 mod view;
 
+pub use answer::Answer;
 pub use colour::{average, filter, forward, reverse};
-pub use payload::{avc_to_annex_b, is_avc_format, Answer};
+pub use combine::apply_main_view;
+pub use convert::{to_rgba, view_to_rgba};
+pub use payload::{avc_to_annex_b, is_avc_format};
+pub use picture::{allocation_size, from_rgba, new, Size};
 pub use view::{luma_row, number, u_row, v_row, Row, View};

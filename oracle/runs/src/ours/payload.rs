@@ -1,12 +1,6 @@
 //! The form of an H.264 payload.
 
-/// 0 or the number of a refusal, and how many bytes were written.
-#[repr(C)]
-#[derive(Debug, Clone, Copy, PartialEq, Eq)]
-pub struct Answer {
-    pub number: u32,
-    pub count: usize,
-}
+use super::Answer;
 
 // The names and the types are those of crates/haythaw.
 unsafe extern "C" {

@@ -21,6 +21,7 @@ pub const SUITE: Suite = Suite {
 pub const BENCH: Bench = Bench {
     name: "avc_format",
     input: "285 units of 1,400 bytes",
+    bound: None,
     sides: || {
         const CALLS: u64 = 1000;
         let payload: Rc<[u8]> = payloads::units(&[1400; 285]).into();

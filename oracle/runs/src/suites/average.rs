@@ -17,6 +17,7 @@ pub const SUITE: Suite = Suite {
 pub const BENCH: Bench = Bench {
     name: "average",
     input: bytes::INPUT,
+    bound: None,
     sides: || {
         bytes::sides(|[a, b, c, d]| ours::average(a, b, c, d).into(), |[a, b, c, d]| probe::average(a, b, c, d).into())
     },

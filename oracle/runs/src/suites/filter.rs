@@ -17,6 +17,7 @@ pub const SUITE: Suite = Suite {
 pub const BENCH: Bench = Bench {
     name: "filter",
     input: bytes::INPUT,
+    bound: None,
     sides: || {
         bytes::sides(|[a, b, c, d]| ours::filter(a, b, c, d).into(), |[a, b, c, d]| probe::filter(a, b, c, d).into())
     },

@@ -17,6 +17,7 @@ pub const SUITE: Suite = Suite {
 pub const BENCH: Bench = Bench {
     name: "forward",
     input: bytes::INPUT,
+    bound: None,
     sides: || {
         bytes::sides(
             |[r, g, b, _]| bytes::as_number(ours::forward(r, g, b)),

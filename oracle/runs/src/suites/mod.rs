@@ -1,17 +1,27 @@
-//! The suites and the benches: one file for each call, one line in each table.
+//! The suites and the benches: one file or folder for each call, one line in each table.
 
+mod allocation_size;
 mod annex_b;
+mod apply;
 mod avc_format;
 mod average;
 mod bytes;
 mod filter;
 mod forward;
+mod from_rgba;
+mod lengths;
+mod lists;
+mod new;
+mod noise;
 mod payloads;
+mod pictures;
 mod reverse;
+mod to_rgba;
 mod view;
+mod view_to_rgba;
 mod views;
 
-use crate::bench::Bench;
+use crate::bench::{Bench, Weighing};
 use crate::run::Run;
 
 /// A suite of comparisons.
@@ -24,8 +34,21 @@ pub struct Suite {
     pub replay: fn(&mut Run, &[u64]) -> Result<(), String>,
 }
 
-pub const SUITES: &[Suite] =
-    &[forward::SUITE, reverse::SUITE, filter::SUITE, average::SUITE, view::SUITE, avc_format::SUITE, annex_b::SUITE];
+pub const SUITES: &[Suite] = &[
+    forward::SUITE,
+    reverse::SUITE,
+    filter::SUITE,
+    average::SUITE,
+    view::SUITE,
+    avc_format::SUITE,
+    annex_b::SUITE,
+    allocation_size::SUITE,
+    new::SUITE,
+    from_rgba::SUITE,
+    to_rgba::SUITE,
+    view_to_rgba::SUITE,
+    apply::MAIN_SUITE,
+];
 
 pub const BENCHES: &[Bench] = &[
     forward::BENCH,
@@ -37,6 +60,23 @@ pub const BENCHES: &[Bench] = &[
     view::SMALL_ROW_BENCH,
     avc_format::BENCH,
     annex_b::BENCH,
+    new::BENCH,
+    from_rgba::BENCH,
+    to_rgba::BENCH,
+    view_to_rgba::BENCH,
+    apply::MAIN_BENCH,
+    apply::MAIN_RECTS_BENCH,
+];
+
+/// Two calls of the library against each other.
+pub const WEIGHINGS: &[Weighing] = &[
+    to_rgba::ODD_EDGES,
+    to_rgba::PLACES,
+    to_rgba::SCALE,
+    view_to_rgba::SCALE,
+    from_rgba::SCALE,
+    new::SCALE,
+    apply::MAIN_SCALE,
 ];
 
 /// The suite of a name.

@@ -17,6 +17,7 @@ pub const SUITE: Suite = Suite {
 pub const BENCH: Bench = Bench {
     name: "reverse",
     input: bytes::INPUT,
+    bound: None,
     sides: || {
         bytes::sides(
             |[y, u, v, _]| bytes::as_number(ours::reverse(y, u, v)),

@@ -2,7 +2,10 @@
 
 use original::decode::{DecoderError, Yuv420Frame};
 
+use super::lengths::{self, changed};
+use super::noise::Noise;
 use crate::ours::View;
+use crate::random::Random;
 
 /// The most bytes that a plane of a case has.
 pub const LONGEST: usize = 1 << 21;
@@ -25,10 +28,41 @@ impl Sizes {
         Self { width, height, luma_stride, chroma_stride, lengths: [luma, chroma, chroma] }
     }
 
+    /// Planes with no byte between a row and the next.
+    pub fn tight(width: u16, height: u16) -> Self {
+        Self::exact(width, height, width.into(), width.div_ceil(2).into())
+    }
+
+    /// As a decoder makes it: whole macroblocks, so width and height are rounded up to 16.
+    ///
+    /// # Panics
+    ///
+    /// Panics if that is above 65,535.
+    pub fn padded(width: u16, height: u16) -> Self {
+        Self::tight(width.next_multiple_of(16), height.next_multiple_of(16))
+    }
+
+    /// The same planes with so many columns and rows of them left out, or all.
+    pub fn cropped(self, right: u16, below: u16) -> Self {
+        Self { width: self.width.saturating_sub(right), height: self.height.saturating_sub(below), ..self }
+    }
+
+    /// The same with each plane a byte short, as it is, or longer, in every way but as they are.
+    pub fn other_lengths(self) -> impl Iterator<Item = Self> {
+        lengths::all(self.lengths).map(move |lengths| Self { lengths, ..self }).filter(move |other| *other != self)
+    }
+
     /// How many rows each plane has.
     pub fn rows(&self) -> [usize; 3] {
         let chroma = usize::from(self.height.div_ceil(2));
         [self.height.into(), chroma, chroma]
+    }
+
+    /// The less, the smaller the view and `more`.
+    pub fn weight(&self, more: usize) -> u64 {
+        let &Self { width, height, luma_stride, chroma_stride, lengths } = self;
+        let words = [width.into(), height.into(), luma_stride, chroma_stride, more];
+        words.iter().chain(&lengths).fold(0, |sum, &word| sum.saturating_add(word as u64))
     }
 
     /// The numbers as a person reads them, and `of_words` too.
@@ -54,6 +88,40 @@ impl Sizes {
     }
 }
 
+/// Every width and height to 33, with each stride from a byte below the width to three above. The planes are exact.
+pub fn small() -> impl Iterator<Item = Sizes> {
+    let strides = |width: u16| usize::from(width.saturating_sub(1))..=usize::from(width) + 3;
+    (0..=33_u16).flat_map(move |width| {
+        (0..=33).flat_map(move |height| {
+            strides(width).flat_map(move |luma_stride| {
+                strides(width.div_ceil(2))
+                    .map(move |chroma_stride| Sizes::exact(width, height, luma_stride, chroma_stride))
+            })
+        })
+    })
+}
+
+/// Small, middling, very wide or very high views, seldom with a stride or a plane too small.
+pub fn anyhow(random: &mut Random) -> Sizes {
+    let (most_width, most_height) = [(33, 33), (300, 300), (65_535, 8), (8, 65_535)][random.between(0, 3) as usize];
+    let width = random.between(0, most_width) as u16;
+    let height = random.between(0, most_height) as u16;
+    let mut stride = |width: u16| match random.between(0, 9) {
+        0 => random.between(0, u64::from(width)) as usize,
+        1 => random.number() as usize,
+        _ => usize::from(width) + random.between(0, 3) as usize,
+    };
+    let (luma_stride, chroma_stride) = (stride(width), stride(width.div_ceil(2)));
+    let exact = Sizes::exact(width, height, luma_stride, chroma_stride);
+    let lengths = exact.lengths.map(|length| match random.between(0, 9) {
+        0 => random.between(0, length as u64) as usize,
+        1 => changed(length, 1),
+        2 => changed(length, 2).min(LONGEST),
+        _ => length,
+    });
+    Sizes { lengths, ..exact }
+}
+
 /// Bytes for the planes Y, U and V. In each plane any 256 in a row differ, and so do the planes at each place.
 pub struct Source([Vec<u8>; 3]);
 
@@ -76,6 +144,27 @@ impl Source {
             u: &u[..lengths[1]],
             v: &v[..lengths[2]],
         }
+    }
+}
+
+/// A view with random planes of its own and no byte between its rows, of any size: for the benches.
+pub struct Owned {
+    width: u16,
+    height: u16,
+    planes: [Vec<u8>; 3],
+}
+
+impl Owned {
+    pub fn new(noise: &Noise, width: u16, height: u16) -> Self {
+        let length = |width: u16, height: u16| usize::from(width) * usize::from(height);
+        let chroma = length(width.div_ceil(2), height.div_ceil(2));
+        let planes = noise.planes(0, [length(width, height), chroma, chroma]).map(<[u8]>::to_vec);
+        Self { width, height, planes }
+    }
+
+    pub fn view(&self) -> View<'_> {
+        let &Self { width, height, planes: [ref y, ref u, ref v] } = self;
+        View { width, height, luma_stride: width.into(), chroma_stride: width.div_ceil(2).into(), y, u, v }
     }
 }
 

@@ -11,17 +11,19 @@ use crate::suites::views::{original_of, Sizes, Source};
 pub const NUMBER_BENCH: Bench = Bench {
     name: "view",
     input: "16x16; the original's time has the copies of the planes that it keeps",
+    bound: None,
     sides: number_sides,
 };
 
 pub const ROW_BENCH: Bench = Bench {
     name: "luma_row",
     input: "rows of 1920x1088; ours checks the view in each call, the original has before",
+    bound: None,
     sides: || row_sides(1920, 1088),
 };
 
 pub const SMALL_ROW_BENCH: Bench =
-    Bench { name: "luma_row_small", input: "rows of 16x16; the same", sides: || row_sides(16, 16) };
+    Bench { name: "luma_row_small", input: "rows of 16x16; the same", bound: None, sides: || row_sides(16, 16) };
 
 fn number_sides() -> Sides {
     const CALLS: u64 = 1 << 16;

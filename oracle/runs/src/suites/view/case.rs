@@ -60,14 +60,14 @@ impl<'a> Case<'a> {
         let number = run.ours(ours::number(self.view));
         run.refused(number);
         let theirs = self.theirs.as_ref().err().copied().unwrap_or(0);
-        run.compare(&number, &theirs, self.size(0), || format!("{} 0 0", self.sizes.words()));
+        run.compare(&number, &theirs, self.sizes.weight(0), || format!("{} 0 0", self.sizes.words()));
     }
 
     pub fn check_row(&self, run: &mut Run, plane: usize, row: usize) {
         let found = run.ours(self.our_row(plane, row));
         run.refused(found.row.number);
         let words = || format!("{} {} {row}", self.sizes.words(), plane + 1);
-        run.compare(&found, &self.their_row(plane, row), self.size(row), words);
+        run.compare(&found, &self.their_row(plane, row), self.sizes.weight(row), words);
     }
 
     /// The number and some rows: the first, the last, the one past it, and two whose start wraps.
@@ -88,12 +88,6 @@ impl<'a> Case<'a> {
                 self.check_row(run, plane, row);
             }
         }
-    }
-
-    fn size(&self, row: usize) -> u64 {
-        let Sizes { width, height, luma_stride, chroma_stride, lengths } = self.sizes;
-        let words = [width.into(), height.into(), luma_stride, chroma_stride, row];
-        words.iter().chain(&lengths).fold(0, |sum, &word| sum.saturating_add(word as u64))
     }
 }
 

@@ -4,9 +4,8 @@ mod bench;
 mod case;
 
 use self::case::{Case, PLANES};
-use super::views::{Sizes, Source, LONGEST};
+use super::views::{self, Sizes, Source};
 use super::Suite;
-use crate::random::Random;
 use crate::run::Run;
 
 pub use self::bench::{NUMBER_BENCH, ROW_BENCH, SMALL_ROW_BENCH};
@@ -42,7 +41,7 @@ fn all_views(run: &mut Run) {
     small_views(run, &source);
     wrapping_views(run, &source);
     while run.more() {
-        let sizes = random_sizes(&mut run.random);
+        let sizes = views::anyhow(&mut run.random);
         let case = Case::new(&source, sizes);
         case.check_edges(run);
         for plane in 0..PLANES {
@@ -54,36 +53,9 @@ fn all_views(run: &mut Run) {
 
 /// Every size to 33 with strides about the width and planes about their length.
 fn small_views(run: &mut Run, source: &Source) {
-    let strides = |width: u16| usize::from(width.saturating_sub(1))..=usize::from(width) + 3;
-    for width in 0..=33_u16 {
-        for height in 0..=33 {
-            for luma_stride in strides(width) {
-                for chroma_stride in strides(width.div_ceil(2)) {
-                    let sizes = Sizes::exact(width, height, luma_stride, chroma_stride);
-                    Case::new(source, sizes).check_all(run);
-                    other_lengths(sizes).for_each(|sizes| Case::new(source, sizes).check_edges(run));
-                }
-            }
-        }
-    }
-}
-
-/// The sizes with each plane a byte short, as it is, or longer, in every way but as they are.
-fn other_lengths(sizes: Sizes) -> impl Iterator<Item = Sizes> {
-    (0..27)
-        .map(move |way| {
-            let ways = [way % 3, way / 3 % 3, way / 9];
-            let lengths = [0, 1, 2].map(|plane| changed(sizes.lengths[plane], ways[plane]));
-            Sizes { lengths, ..sizes }
-        })
-        .filter(move |other| *other != sizes)
-}
-
-fn changed(length: usize, way: u64) -> usize {
-    match way {
-        0 => length,
-        1 => length.saturating_sub(1),
-        _ => length + 5,
+    for sizes in views::small() {
+        Case::new(source, sizes).check_all(run);
+        sizes.other_lengths().for_each(|sizes| Case::new(source, sizes).check_edges(run));
     }
 }
 
@@ -103,25 +75,4 @@ fn wrapping_views(run: &mut Run, source: &Source) {
             }
         }
     }
-}
-
-/// Small, middling, very wide or very high views, seldom with a stride or a plane too small.
-fn random_sizes(random: &mut Random) -> Sizes {
-    let (most_width, most_height) = [(33, 33), (300, 300), (65_535, 8), (8, 65_535)][random.between(0, 3) as usize];
-    let width = random.between(0, most_width) as u16;
-    let height = random.between(0, most_height) as u16;
-    let mut stride = |width: u16| match random.between(0, 9) {
-        0 => random.between(0, u64::from(width)) as usize,
-        1 => random.number() as usize,
-        _ => usize::from(width) + random.between(0, 3) as usize,
-    };
-    let (luma_stride, chroma_stride) = (stride(width), stride(width.div_ceil(2)));
-    let exact = Sizes::exact(width, height, luma_stride, chroma_stride);
-    let lengths = exact.lengths.map(|length| match random.between(0, 9) {
-        0 => random.between(0, length as u64) as usize,
-        1 => changed(length, 1),
-        2 => changed(length, 2).min(LONGEST),
-        _ => length,
-    });
-    Sizes { lengths, ..exact }
 }

@@ -1,0 +1,2 @@
+-- The auxiliary views in the picture.
+pub mod Auxiliary

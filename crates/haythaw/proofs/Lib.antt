@@ -1,0 +1,2 @@
+-- Calls that hand back the number alone.
+pub mod Numbers

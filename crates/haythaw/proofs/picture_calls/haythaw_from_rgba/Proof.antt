@@ -1,0 +1,25 @@
+-- `haythaw_from_rgba` meets its contract: it hands all over, and of the answer it hands back the number.
+-- Assumes nothing.
+use borrow.Author.Needs.{needs}
+use Rattle.haythaw.proofs.Numbers.{number-alone}
+use Rattle.haythaw.proofs.picture_calls.haythaw_from_rgba.Statement.{statement}
+use Rattle.haythaw.proofs.picture_calls.haythaw_from_rgba.Tie as tie
+
+from-rgba-requires : tie.Need-from-rgba-requires
+from-rgba-requires c κs = search needs
+
+same-length : tie.Need-same-length
+same-length c = search needs
+
+same-length-2 : tie.Need-same-length-2
+same-length-2 c = search needs
+
+same-length-3 : tie.Need-same-length-3
+same-length-3 c = search needs
+
+returns : tie.Need-returns
+returns c = number-alone (c .before .before .before .before .before .before .from-rgba .ensures)
+
+pub haythaw-from-rgba-spec : {M : Type 1} → statement M
+haythaw-from-rgba-spec =
+    tie.close (tie.spec from-rgba-requires same-length same-length-2 same-length-3 returns)

@@ -1,0 +1,25 @@
+-- `haythaw_new` meets its contract: it hands all over, and of the answer it hands back the number.
+-- Assumes nothing.
+use borrow.Author.Needs.{needs}
+use Rattle.haythaw.proofs.Numbers.{number-alone}
+use Rattle.haythaw.proofs.picture_calls.haythaw_new.Statement.{statement}
+use Rattle.haythaw.proofs.picture_calls.haythaw_new.Tie as tie
+
+new-requires : tie.Need-new-requires
+new-requires c κs = search needs
+
+same-length : tie.Need-same-length
+same-length c = search needs
+
+same-length-2 : tie.Need-same-length-2
+same-length-2 c = search needs
+
+same-length-3 : tie.Need-same-length-3
+same-length-3 c = search needs
+
+returns : tie.Need-returns
+returns c = number-alone (c .before .before .before .before .before .before .new .ensures)
+
+pub haythaw-new-spec : {M : Type 1} → statement M
+haythaw-new-spec =
+    tie.close (tie.spec new-requires same-length same-length-2 same-length-3 returns)

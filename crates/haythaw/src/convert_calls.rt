@@ -1,0 +1,76 @@
+// Both conversions to RGBA: of a rectangle of a picture, and of a view.
+ghost use mathlib.Core.List.{[], _∷_};
+ghost use lib.ListN.{length};
+ghost use Rattle.colour.specs.Colour.{reverseOf};
+ghost use Rattle.lent.specs.Outcome.{Outcome, answerOf, lentAfter};
+ghost use Rattle.convert.specs.Picture.{toRgbaCountOf, toRgbaNumberOf, toRgbaOf};
+ghost use Rattle.convert.specs.View.{viewToRgbaCountOf, viewToRgbaNumberOf, viewToRgbaOf};
+ghost use Rattle.haythaw.specs.Sizes.{sizesOf, sizeOf, rectOf};
+use convert::Rect;
+use picture::Size;
+use view::View;
+
+// The rectangle of the picture, clipped to it, as RGBA, and how many bytes were written; or 1 or 6.
+#[no_mangle]
+pub extern "C" fn haythaw_to_rgba(
+    width: u16,
+    height: u16,
+    y: &[u8],
+    u: &[u8],
+    v: &[u8],
+    left: u16,
+    top: u16,
+    right: u16,
+    bottom: u16,
+    out: &mut [u8],
+) -> lent::Answer
+    ensures { λ r. ⌜ Outcome (answerOf (toRgbaNumberOf (sizeOf width height) (toRgbaCountOf (sizeOf width height) (rectOf left top right bottom))
+        (length (now (y .entry))) (length (now (u .entry))) (length (now (v .entry))) (length (now (out .entry))))
+        (toRgbaCountOf (sizeOf width height) (rectOf left top right bottom)))
+        (lentAfter (toRgbaNumberOf (sizeOf width height) (toRgbaCountOf (sizeOf width height) (rectOf left top right bottom))
+        (length (now (y .entry))) (length (now (u .entry))) (length (now (v .entry))) (length (now (out .entry))))
+        (now (out .entry))
+        (toRgbaOf (sizeOf width height) (now (y .entry)) (now (u .entry)) (now (v .entry)) (rectOf left top right bottom) (now (out .entry))) ∷ [])
+        r (now (out .exit) ∷ []) ⌝ }
+{
+    let rect = Rect {
+        left,
+        top,
+        right,
+        bottom,
+    };
+    convert::to_rgba(Size { width, height }, y, u, v, rect, out)
+}
+
+// The view as RGBA, and how many bytes were written; or 3, 4 or 6.
+#[no_mangle]
+pub extern "C" fn haythaw_view_to_rgba(
+    view_width: u16,
+    view_height: u16,
+    luma_stride: usize,
+    chroma_stride: usize,
+    view_y: &[u8],
+    view_u: &[u8],
+    view_v: &[u8],
+    out: &mut [u8],
+) -> lent::Answer
+    ensures { λ r. ⌜ Outcome (answerOf (viewToRgbaNumberOf (sizesOf «view_width» «view_height» «luma_stride» «chroma_stride»)
+        (viewToRgbaCountOf (sizesOf «view_width» «view_height» «luma_stride» «chroma_stride»))
+        (length (now («view_y» .entry))) (length (now («view_u» .entry))) (length (now («view_v» .entry))) (length (now (out .entry))))
+        (viewToRgbaCountOf (sizesOf «view_width» «view_height» «luma_stride» «chroma_stride»)))
+        (lentAfter (viewToRgbaNumberOf (sizesOf «view_width» «view_height» «luma_stride» «chroma_stride»)
+        (viewToRgbaCountOf (sizesOf «view_width» «view_height» «luma_stride» «chroma_stride»))
+        (length (now («view_y» .entry))) (length (now («view_u» .entry))) (length (now («view_v» .entry))) (length (now (out .entry))))
+        (now (out .entry))
+        (viewToRgbaOf reverseOf (sizesOf «view_width» «view_height» «luma_stride» «chroma_stride»)
+        (now («view_y» .entry)) (now («view_u» .entry)) (now («view_v» .entry)) (now (out .entry))) ∷ [])
+        r (now (out .exit) ∷ []) ⌝ }
+{
+    let w = View {
+        width: view_width,
+        height: view_height,
+        luma_stride,
+        chroma_stride,
+    };
+    convert::view_to_rgba(w, view_y, view_u, view_v, out)
+}

@@ -1,0 +1,52 @@
+// A 4:4:4 picture over three lent planes: its size in bytes, a fresh one, and one of RGBA pixels.
+ghost use mathlib.Core.Path.{_≡_};
+ghost use mathlib.Core.List.{[], _∷_};
+ghost use lib.ListN.{length};
+ghost use Rattle.lent.specs.Outcome.{Outcome, answerOf};
+ghost use Rattle.picture.specs.Sizes.{allocationSizeOf};
+ghost use Rattle.picture.specs.New.{newNumberOf, newBuffersOf};
+ghost use Rattle.picture.specs.FromRgba.{fromNumberOf, fromBuffersOf};
+ghost use Rattle.haythaw.specs.Sizes.{sizeOf};
+use picture::Size;
+
+// Bytes of the three planes together.
+#[no_mangle]
+pub extern "C" fn haythaw_allocation_size(width: u16, height: u16) -> usize
+    ensures { λ r. ⌜ r ≡ allocationSizeOf (sizeOf width height) ⌝ }
+{
+    picture::allocation_size(Size { width, height })
+}
+
+// A fresh picture: Y 0, U and V 128. 0, or 1.
+#[no_mangle]
+pub extern "C" fn haythaw_new(
+    width: u16,
+    height: u16,
+    y: &mut [u8],
+    u: &mut [u8],
+    v: &mut [u8],
+) -> u32
+    ensures { λ r. ⌜ Outcome (answerOf (newNumberOf (sizeOf width height) (length (now (y .entry))) (length (now (u .entry))) (length (now (v .entry)))) 0)
+        (newBuffersOf (sizeOf width height) (now (y .entry)) (now (u .entry)) (now (v .entry)))
+        (answerOf r 0) (now (y .exit) ∷ now (u .exit) ∷ now (v .exit) ∷ []) ⌝ }
+{
+    picture::new(Size { width, height }, y, u, v).number
+}
+
+// The picture of width x height RGBA pixels. 0, 2 or 1.
+#[no_mangle]
+pub extern "C" fn haythaw_from_rgba(
+    rgba: &[u8],
+    width: u16,
+    height: u16,
+    y: &mut [u8],
+    u: &mut [u8],
+    v: &mut [u8],
+) -> u32
+    ensures { λ r. ⌜ Outcome (answerOf (fromNumberOf (sizeOf width height) (length (now (rgba .entry)))
+        (length (now (y .entry))) (length (now (u .entry))) (length (now (v .entry)))) 0)
+        (fromBuffersOf (now (rgba .entry)) (sizeOf width height) (now (y .entry)) (now (u .entry)) (now (v .entry)))
+        (answerOf r 0) (now (y .exit) ∷ now (u .exit) ∷ now (v .exit) ∷ []) ⌝ }
+{
+    picture::from_rgba(rgba, Size { width, height }, y, u, v).number
+}

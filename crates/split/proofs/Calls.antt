@@ -1,0 +1,98 @@
+-- How a split ends: a number that is not 0 leaves the outputs as they were; 0 says that all that is lent is long enough, and leaves
+-- the two views. Assumes nothing.
+use Prim.Native.Nat.{ℕ, _*_, _/_, _≤_}
+use native.Mathlib.Omega.{arith}
+use mathlib.Core.Path.{_≡_, refl, sym, ap, _∙_}
+use mathlib.Core.Bool.{Bool, true, false, _||_}
+use mathlib.Core.List.{[], _∷_}
+use lib.Dec.{eqb}
+use borrow.Author.Tests.{eq-eqb, ne-eqb, ltb-false}
+use Rattle.lent.specs.Sizes.{tooShort}
+use Rattle.lent.proofs.Bools.{or-left, or-right}
+use Rattle.lent.proofs.Exactly.{nor}
+use Rattle.picture.specs.declared.Size.{Size}
+use Rattle.picture.specs.Sizes.{strideOf, rowsOf}
+use Rattle.picture.proofs.Sizes.{planes-fit}
+use Rattle.layout.specs.declared.Layout.{Layout}
+use Rattle.split.specs.declared.PlaneLengths.{PlaneLengths}
+use Rattle.split.specs.declared.Views.{Views}
+use Rattle.split.specs.Split.{Planes, lengthsOf, mainSample, auxSample, tooLarge, viewShort, splitNumberOf, splitAnswerOf, splitBuffersOf, Written, SplitEnds}
+use Rattle.split.specs.Fits.{Whole, Room}
+use Rattle.split.proofs.Exactly.{split-0-exactly}
+
+-- the tests of one view's planes, one after the other
+module _ (z : Size) (n : PlaneLengths) where
+  abbrev y-short : Bool
+  y-short = tooShort (strideOf z) (rowsOf z) (n .y)
+
+  abbrev u-short : Bool
+  u-short = tooShort (strideOf z / 2) (rowsOf z / 2) (n .u)
+
+  abbrev v-short : Bool
+  v-short = tooShort (strideOf z / 2) (rowsOf z / 2) (n .v)
+
+  pub short-1 : tooShort (strideOf z) (rowsOf z) (n .y) ≡ true → viewShort z n ≡ true
+  unfolding viewShort
+  short-1 e = or-left (y-short || u-short) v-short (or-left y-short u-short e)
+
+  pub short-2 : tooShort (strideOf z / 2) (rowsOf z / 2) (n .u) ≡ true → viewShort z n ≡ true
+  unfolding viewShort
+  short-2 e = or-left (y-short || u-short) v-short (or-right y-short u-short e)
+
+  pub short-3 : tooShort (strideOf z) (rowsOf z) (n .y) ≡ false → tooShort (strideOf z / 2) (rowsOf z / 2) (n .u) ≡ false → viewShort z n ≡ tooShort (strideOf z / 2) (rowsOf z / 2) (n .v)
+  unfolding viewShort
+  short-3 e f = rw (e, f)
+
+  pub view-room : viewShort z n ≡ false → Room (n .y) (n .u) (n .v) (strideOf z) (rowsOf z)
+  unfolding viewShort
+  view-room e =
+      let yu = nor (y-short || u-short) v-short .0 e in
+      let y = nor y-short u-short .0 (yu .0) in
+      record { y-room = ltb-false _ _ (y .0); u-room = ltb-false _ _ (y .1); v-room = ltb-false _ _ (yu .1) }
+
+-- what 0 says
+pub record Accepted (z : Size) (p m a : PlaneLengths) : Type 0 where
+  pub y-whole : Whole (p .y) (strideOf z) (rowsOf z)
+  pub u-whole : Whole (p .u) (strideOf z) (rowsOf z)
+  pub v-whole : Whole (p .v) (strideOf z) (rowsOf z)
+  pub main-room : Room (m .y) (m .u) (m .v) (strideOf z) (rowsOf z)
+  pub aux-room : Room (a .y) (a .u) (a .v) (strideOf z) (rowsOf z)
+  pub small : tooLarge z ≡ false
+
+whole-plane : (z : Size) {n : ℕ} → rowsOf z * strideOf z ≤ n → Whole n (strideOf z) (rowsOf z)
+whole-plane z fits = record { fits = fits; wide = omega arith; high = omega arith }
+
+pub accepted : (z : Size) (p m a : PlaneLengths) → splitNumberOf z p m a ≡ 0 → Accepted z p m a
+accepted z p m a e =
+    let f = split-0-exactly z p m a .0 e in
+    let fit = planes-fit z (p .y) (p .u) (p .v) (f .0) in
+    let out = nor (viewShort z m) (viewShort z a) .0 (f .1 .1) in
+    record {
+      y-whole = whole-plane z (fit .y-fits);
+      u-whole = whole-plane z (fit .u-fits);
+      v-whole = whole-plane z (fit .v-fits);
+      main-room = view-room z m (out .0);
+      aux-room = view-room z a (out .1);
+      small = f .1 .0;
+    }
+
+module _ (t : Layout) (z : Size) (p m a : Planes) {n : ℕ} {r : Views} (is : n ≡ splitNumberOf z (lengthsOf p) (lengthsOf m) (lengthsOf a)) where
+  pub refused : (n ≡ 0 → ⊥) → r ≡ splitAnswerOf z n → SplitEnds t z p m a r (m .y ∷ m .u ∷ m .v ∷ a .y ∷ a .u ∷ a .v ∷ [])
+  unfolding splitBuffersOf
+  refused some answered =
+      let no : eqb (splitNumberOf z (lengthsOf p) (lengthsOf m) (lengthsOf a)) 0 ≡ false = ne-eqb _ 0 (λ e. some (is ∙ e)) in
+      record { answer = answered ∙ ap (splitAnswerOf z) is; buffers = rw no refl }
+
+  pub done : {stride rows : ℕ} {m′ a′ : Planes} → n ≡ 0 → r ≡ splitAnswerOf z 0 → stride ≡ strideOf z → rows ≡ rowsOf z
+      → Written stride rows (mainSample stride p) m m′ → Written stride rows (auxSample t stride (p .u) (p .v)) a a′
+      → SplitEnds t z p m a r (m′ .y ∷ m′ .u ∷ m′ .v ∷ a′ .y ∷ a′ .u ∷ a′ .v ∷ [])
+  unfolding splitBuffersOf
+  done none answered wide high main aux =
+      let zero : splitNumberOf z (lengthsOf p) (lengthsOf m) (lengthsOf a) ≡ 0 = sym is ∙ none in
+      let yes : eqb (splitNumberOf z (lengthsOf p) (lengthsOf m) (lengthsOf a)) 0 ≡ true = eq-eqb _ 0 zero in
+      let w = rw (wide, high) at main in
+      let x = rw (wide, high) at aux in
+      record {
+        answer = answered ∙ ap (splitAnswerOf z) (sym zero);
+        buffers = rw yes (λ i. w .y-is i ∷ w .u-is i ∷ w .v-is i ∷ x .y-is i ∷ x .u-is i ∷ x .v-is i ∷ []);
+      }

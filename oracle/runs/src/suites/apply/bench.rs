@@ -1,0 +1,75 @@
+//! The apply calls timed.
+
+use std::hint::black_box;
+
+use original::avc444::{probe, Yuv444Frame};
+use original::decode::Yuv420Frame;
+use original::ExclusiveRectangle;
+
+use super::case::Call;
+use super::MAIN;
+use crate::bench::{sample, scale, Bench, Pass, Sides, Weighing, SCALES};
+use crate::suites::lists;
+use crate::suites::noise::{Noise, LONGEST};
+use crate::suites::pictures::{Planes, Sizes};
+use crate::suites::views::{original_of, Owned};
+
+pub const MAIN_BENCH: Bench = Bench {
+    name: "apply_main_view",
+    input: "1920x1080, the whole frame",
+    bound: Some(0.15),
+    sides: || sides(&MAIN, vec![0, 0, 1920, 1080]),
+};
+
+pub const MAIN_RECTS_BENCH: Bench = Bench {
+    name: "apply_main_view_rects",
+    input: "1920x1080, 500 rectangles of about 64x16 with odd edges",
+    bound: Some(0.6),
+    sides: || sides(&MAIN, odd_rects()),
+};
+
+pub const MAIN_SCALE: Weighing = Weighing {
+    name: "apply_main_view",
+    input: SCALES,
+    bound: 2.0,
+    passes: || scale(|width, height| pass(&MAIN, width, height, vec![0, 0, width, height])),
+};
+
+/// 500 rectangles from 62 by 14 to 65 by 17, whose left and top are odd.
+fn odd_rects() -> Vec<u16> {
+    (0..500_u16)
+        .flat_map(|place| {
+            let (left, top) = ((place * 67 % 1850) | 1, (place * 31 % 1060) | 1);
+            [left, top, left + 62 + place % 4, top + 14 + place / 4 % 4]
+        })
+        .collect()
+}
+
+fn sides(call: &'static Call, list: Vec<u16>) -> Sides {
+    let noise = Noise::new(LONGEST);
+    let sizes = Sizes::exact(1920, 1080);
+    let rects = lists::originals_of(&list).expect("whole fours");
+    let mut picture = Planes::new(&sizes, &noise, 1).original(&sizes);
+    let frame = original_of(Owned::new(&noise, 1920, 1080).view()).0.expect("the planes are exact");
+    Sides::repeated(8, pass(call, 1920, 1080, list), move || {
+        their_sum(call, &mut picture, black_box(&frame), black_box(&rects))
+    })
+}
+
+/// A call of ours, which answers the number and a sum of bytes of the planes.
+fn pass(call: &'static Call, width: u16, height: u16, list: Vec<u16>) -> Pass {
+    let noise = Noise::new(LONGEST);
+    let sizes = Sizes::exact(width, height);
+    let view = Owned::new(&noise, width, height);
+    let mut planes = Planes::new(&sizes, &noise, 1);
+    Pass::new(u64::from(width) * u64::from(height), move || {
+        let number = (call.ours)(sizes.size, planes.lent(), black_box(&list), black_box(view.view()));
+        u64::from(number) + planes.sample()
+    })
+}
+
+#[inline(never)]
+fn their_sum(call: &Call, picture: &mut Yuv444Frame, view: &Yuv420Frame, rects: &[ExclusiveRectangle]) -> u64 {
+    (call.theirs)(picture, view, rects);
+    probe::planes(picture).map(sample).iter().sum()
+}

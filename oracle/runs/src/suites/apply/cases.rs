@@ -1,0 +1,193 @@
+//! The cases of every apply call: pictures to 49 by 49, every kind of view, every kind of rectangle, and refusals.
+
+use super::case::{Call, Case, Sources};
+use super::named;
+use crate::ours::Size;
+use crate::random::Random;
+use crate::run::Run;
+use crate::suites::lists;
+use crate::suites::{lengths, pictures, views};
+
+/// What `every` makes, in words.
+pub const ABOUT: &str =
+    "systematic: pictures to 49 by 49; every left modulo 4, top modulo 16, and parity of right and bottom, with views that are
+padded, exact or cropped; views cropped by 1 to 15 in each direction, and unrelated in size; rectangles that are empty,
+reversed or off the picture; lists of 0 to 24 numbers; too short planes, too narrow strides, and both
+named: the worked rectangles of a 5x5 picture; (1,0,33,16), (0,1,64,17), (0,8,64,24) and left = 2, each of which FreeRDP
+gets wrong in some combine; widths 20, 34 and 62; the whole frame; the kinds of call behind CVE-2023-40188, CVE-2026-29774,
+CVE-2026-33986 and CVE-2026-25941: a view that ends before its rows or the rectangle, rectangles outside the frame,
+dimensions that disagree
+random: larger pictures, to 65,535 wide or high, with any view";
+
+/// Every case of an apply call.
+pub fn every(run: &mut Run, call: &'static Call) {
+    let sources = Sources::new();
+    named::every(run, call, &sources);
+    for width in 0..=49 {
+        for height in 0..=49 {
+            let small = Small { call, sources: &sources, size: Size { width, height } };
+            small.edges(run);
+            small.crops(run);
+            small.unrelated(run);
+            small.lists(run);
+            if is_about_16(width) && is_about_16(height) {
+                small.refusals(run);
+            }
+        }
+    }
+    while run.more() {
+        random_case(run, call, &sources);
+    }
+}
+
+fn is_about_16(length: u16) -> bool {
+    matches!(length % 16, 0 | 1 | 15)
+}
+
+/// A picture of the systematic cases.
+struct Small<'a> {
+    call: &'static Call,
+    sources: &'a Sources,
+    size: Size,
+}
+
+impl<'a> Small<'a> {
+    fn with(&self, view: views::Sizes) -> Case<'a> {
+        let Size { width, height } = self.size;
+        let place = u64::from(width) * 50 + u64::from(height);
+        Case::new(self.call, self.sources, pictures::Sizes::exact(width, height), place, view)
+    }
+
+    /// Whole macroblocks.
+    fn padded(&self) -> views::Sizes {
+        views::Sizes::padded(self.size.width, self.size.height)
+    }
+
+    /// Each residue of the edges, and the odd rectangles, with views that are padded, exact and cropped.
+    fn edges(&self, run: &mut Run) {
+        let Size { width, height } = self.size;
+        let views =
+            [self.padded(), views::Sizes::tight(width, height), self.padded().cropped(1 + width % 15, 1 + height % 15)];
+        let cases = views.map(|view| self.with(view));
+        for left in 0..4 {
+            for top in 0..16 {
+                for (right, bottom) in [(0, 0), (0, 1), (1, 0), (1, 1)] {
+                    let rect = [left, top, width.saturating_sub(right), height.saturating_sub(bottom)];
+                    cases.iter().for_each(|case| case.check(run, &rect));
+                }
+            }
+        }
+        for rect in lists::odd_ones(self.size) {
+            cases.iter().for_each(|case| case.check(run, &rect));
+        }
+    }
+
+    /// Views cropped by 1 to 15 in each direction: the whole picture, or any rectangle.
+    fn crops(&self, run: &mut Run) {
+        for right in 1..=15 {
+            for below in 1..=15 {
+                let rect = match (right + below) % 3 {
+                    0 => lists::any_rect(&mut run.random, self.size),
+                    _ => lists::whole(self.size),
+                };
+                self.with(self.padded().cropped(right, below)).check(run, &rect);
+            }
+        }
+    }
+
+    /// Views whose size has nothing to do with the picture's.
+    fn unrelated(&self, run: &mut Run) {
+        for (width, height) in [(0, 0), (0, 20), (20, 0), (1, 1), (7, 90), (90, 7), (90, 90)] {
+            let case = self.with(views::Sizes::tight(width, height));
+            case.check(run, &lists::whole(self.size));
+            let list = lists::anyhow(&mut run.random, self.size, 8);
+            case.check(run, &list);
+        }
+    }
+
+    /// Lists of every length to six rectangles; those that are no multiple of 4 are refused.
+    fn lists(&self, run: &mut Run) {
+        let case = self.with(self.padded());
+        for numbers in 0..=24 {
+            let list = lists::anyhow(&mut run.random, self.size, numbers);
+            case.check(run, &list);
+        }
+        let [left, top, right, bottom] = lists::whole(self.size);
+        case.check(run, &[left, top, right, bottom, left, top, right, bottom]);
+    }
+
+    /// All that is refused, alone and together.
+    fn refusals(&self, run: &mut Run) {
+        let Size { width, height } = self.size;
+        for picture in pictures::Sizes::exact(width, height).all_lengths() {
+            for view in bad_views(self.padded()) {
+                let case = Case::new(self.call, self.sources, picture, 3, view);
+                let rect = lists::whole(self.size);
+                case.check(run, &rect);
+                case.check(run, &rect[..3]);
+            }
+        }
+    }
+}
+
+/// A view that is right, too narrow, too short, or both.
+fn bad_views(right: views::Sizes) -> Vec<views::Sizes> {
+    let short = |plane: usize, view: views::Sizes| {
+        let mut lengths = view.lengths;
+        lengths[plane] = lengths::changed(lengths[plane], 1);
+        views::Sizes { lengths, ..view }
+    };
+    let narrow_luma = views::Sizes { luma_stride: right.luma_stride.saturating_sub(1), ..right };
+    let narrow_chroma = views::Sizes { chroma_stride: right.chroma_stride.saturating_sub(1), ..right };
+    let wrapping = views::Sizes { luma_stride: usize::MAX, ..right };
+    let shorts = (0..3).map(|plane| short(plane, right));
+    shorts
+        .chain([right, narrow_luma, narrow_chroma, short(0, narrow_luma), short(2, narrow_chroma), wrapping])
+        .collect()
+}
+
+fn random_case(run: &mut Run, call: &'static Call, sources: &Sources) {
+    let picture = random_picture(&mut run.random);
+    let view = random_view(&mut run.random, picture.size);
+    let place = run.random.between(0, 999_999);
+    let case = Case::new(call, sources, picture, place, view);
+    for _ in 0..2 {
+        let numbers = match run.random.between(0, 19) {
+            0 => run.random.between(0, 40),
+            _ => 4 * run.random.between(0, 6),
+        };
+        let list = lists::anyhow(&mut run.random, picture.size, numbers as usize);
+        case.check(run, &list);
+    }
+}
+
+/// Small, middling, very wide or very high.
+fn random_picture(random: &mut Random) -> pictures::Sizes {
+    let (most_width, most_height) = [(49, 49), (300, 300), (65_535, 16), (16, 65_535)][match random.between(0, 19) {
+        0 => 2,
+        1 => 3,
+        2..=9 => 1,
+        _ => 0,
+    }];
+    let exact = pictures::Sizes::exact(random.between(0, most_width) as u16, random.between(0, most_height) as u16);
+    match random.between(0, 19) {
+        0 => exact.all_lengths().nth(random.between(1, 26) as usize).expect("one of 27"),
+        _ => exact,
+    }
+}
+
+/// A view of about the picture's size, or any.
+fn random_view(random: &mut Random, Size { width, height }: Size) -> views::Sizes {
+    let mut about =
+        |length: u16| length.saturating_add(random.between(0, 20) as u16).saturating_sub(random.between(0, 20) as u16);
+    let (about_width, about_height) = (about(width), about(height));
+    match random.between(0, 3) {
+        0 => views::anyhow(random),
+        _ => views::Sizes::exact(
+            about_width,
+            about_height,
+            usize::from(about_width) + random.between(0, 9) as usize,
+            usize::from(about_width.div_ceil(2)) + random.between(0, 9) as usize,
+        ),
+    }
+}

@@ -1,0 +1,133 @@
+//! Pictures for the suites and benches of calls that take one.
+
+use original::avc444::{probe, Yuv444Frame};
+
+use super::lengths::{self, changed};
+use super::noise::{Noise, LONGEST};
+use crate::bench::sample;
+use crate::ours::Size;
+use crate::outcome::Lent;
+use crate::random::Random;
+
+/// A picture by its numbers: the lengths are those of the buffers that are lent for Y, U and V.
+#[derive(Debug, Clone, Copy, PartialEq, Eq)]
+pub struct Sizes {
+    pub size: Size,
+    pub lengths: [usize; 3],
+}
+
+impl Sizes {
+    /// Buffers that just hold the planes.
+    pub fn exact(width: u16, height: u16) -> Self {
+        let size = Size { width, height };
+        Self { size, lengths: [plane_of(size); 3] }
+    }
+
+    /// A picture of at most 2^20 bytes a plane, seldom with a buffer too short.
+    pub fn anyhow(random: &mut Random) -> Self {
+        let (most_width, most_height) = [(64, 64), (1024, 1024), (4096, 64), (64, 4096)][random.between(0, 3) as usize];
+        let exact = Self::exact(random.between(0, most_width) as u16, random.between(0, most_height) as u16);
+        let lengths = exact.lengths.map(|length| match random.between(0, 19) {
+            0 => random.between(0, length as u64) as usize,
+            1 => changed(length, 1),
+            _ => length,
+        });
+        Self { lengths, ..exact }
+    }
+
+    /// How many bytes a plane of it has, whatever is lent.
+    pub fn plane(&self) -> usize {
+        plane_of(self.size)
+    }
+
+    /// Refusal 1: a buffer is shorter than a plane.
+    pub fn is_short(&self) -> bool {
+        self.lengths.iter().any(|&length| length < self.plane())
+    }
+
+    /// The same with each buffer as it is, a byte short, or longer, in all 27 ways. As it is comes first.
+    pub fn all_lengths(self) -> impl Iterator<Item = Self> {
+        lengths::all(self.lengths).map(move |lengths| Self { lengths, ..self })
+    }
+
+    /// The numbers as a person reads them, and `of_words` too.
+    pub fn words(&self) -> String {
+        let Self { size: Size { width, height }, lengths: [y, u, v] } = self;
+        format!("{width} {height} {y} {u} {v}")
+    }
+
+    pub fn of_words(words: [u64; 5]) -> Result<Self, String> {
+        let [width, height, lengths @ ..] = words;
+        let short = |word: u64| u16::try_from(word).map_err(|_| format!("{word} is no width or height"));
+        let size = Size { width: short(width)?, height: short(height)? };
+        match lengths.iter().find(|&&length| length > LONGEST as u64) {
+            Some(length) => Err(format!("{length} is too long for a plane of a case")),
+            None => Ok(Self { size, lengths: lengths.map(|length| length as usize) }),
+        }
+    }
+
+    /// The less, the smaller the picture.
+    pub fn weight(&self) -> u64 {
+        let Size { width, height } = self.size;
+        u64::from(width) + u64::from(height) + self.lengths.iter().sum::<usize>() as u64
+    }
+}
+
+/// Stride times rows: width and height rounded up to 16.
+fn plane_of(Size { width, height }: Size) -> usize {
+    usize::from(width).next_multiple_of(16) * usize::from(height).next_multiple_of(16)
+}
+
+/// The buffers that are lent for the planes Y, U and V of a picture.
+#[derive(Clone)]
+pub struct Planes([Lent; 3]);
+
+impl Planes {
+    /// Buffers full of bytes that `word` picks.
+    pub fn new(sizes: &Sizes, noise: &Noise, word: u64) -> Self {
+        Self(noise.planes(word, sizes.lengths).map(Lent::holding))
+    }
+
+    pub fn lent(&mut self) -> [&mut [u8]; 3] {
+        self.0.each_mut().map(Lent::lent)
+    }
+
+    /// The original's picture of the same size with the same planes.
+    ///
+    /// # Panics
+    ///
+    /// Panics if a buffer is shorter than a plane.
+    pub fn original(&mut self, sizes: &Sizes) -> Yuv444Frame {
+        let Size { width, height } = sizes.size;
+        probe::with_planes(width, height, self.lent().map(|lent| &lent[..sizes.plane()]))
+    }
+
+    /// Takes the planes of the original's picture. What is longer than a plane stays.
+    pub fn take(&mut self, picture: &Yuv444Frame) {
+        for (lent, plane) in self.lent().into_iter().zip(probe::planes(picture)) {
+            lent[..plane.len()].copy_from_slice(plane);
+        }
+    }
+
+    /// A sum over a few of the bytes, for the benches.
+    pub fn sample(&mut self) -> u64 {
+        self.lent().map(|lent| sample(lent)).iter().sum()
+    }
+
+    /// All bytes of each buffer, with the guard bytes.
+    pub fn whole(self) -> Vec<Vec<u8>> {
+        self.0.into_iter().map(Lent::whole).collect()
+    }
+}
+
+#[cfg(test)]
+mod tests {
+    use super::*;
+
+    #[test]
+    fn words_are_read_back() {
+        let sizes = Sizes { lengths: [5, 6, 7], ..Sizes::exact(3, 65_535) };
+        let words: Vec<u64> = sizes.words().split(' ').map(|word| word.parse().unwrap()).collect();
+        assert_eq!(Sizes::of_words(words.try_into().unwrap()), Ok(sizes));
+    }
+}

@@ -1,0 +1,87 @@
+//! Picture to RGBA timed.
+
+use std::hint::black_box;
+
+use original::avc444::{probe, Yuv444Frame};
+use original::ExclusiveRectangle;
+
+use crate::bench::{sample, scale, Bench, Pass, Sides, Weighing, SCALES};
+use crate::ours::{self, Size};
+use crate::suites::lists::{self, Rect};
+use crate::suites::noise::{Noise, LONGEST};
+use crate::suites::pictures::Sizes;
+
+pub const BENCH: Bench = Bench {
+    name: "to_rgba",
+    input: "1920x1080; the original allocates its answer",
+    bound: Some(0.25),
+    sides: || {
+        let size = Size { width: 1920, height: 1080 };
+        let whole = lists::whole(size);
+        let memory = planes(size);
+        let planes: Vec<&[u8]> = memory.chunks(memory.len() / 3).collect();
+        let picture = probe::with_planes(1920, 1080, planes.try_into().expect("three planes"));
+        let rect = lists::original_of(whole);
+        Sides::repeated(2, pass(size, whole, FAR), move || their_sum(black_box(&picture), &rect))
+    },
+};
+
+pub const ODD_EDGES: Weighing = Weighing {
+    name: "to_rgba",
+    input: "1920x1080: columns 1 to below 1918 against 0 to below 1918",
+    bound: 1.2,
+    passes: || {
+        let size = Size { width: 1920, height: 1080 };
+        [[1, 0, 1918, 1080], [0, 0, 1918, 1080]].map(|rect| pass(size, rect, FAR))
+    },
+};
+
+pub const SCALE: Weighing = Weighing {
+    name: "to_rgba",
+    input: SCALES,
+    bound: 2.0,
+    passes: || scale(|width, height| whole(width, height, FAR)),
+};
+
+pub const PLACES: Weighing = Weighing {
+    name: "to_rgba",
+    input: "1280x720: the output right behind V against far from it",
+    bound: 1.2,
+    passes: || [0, FAR].map(|gap| whole(1280, 720, gap)),
+};
+
+/// Bytes between V and an output that is far from it.
+const FAR: usize = 1 << 17;
+
+fn whole(width: u16, height: u16, gap: usize) -> Pass {
+    let size = Size { width, height };
+    pass(size, lists::whole(size), gap)
+}
+
+/// A call of ours for a rectangle inside the picture, which answers the number, the count and a sum of bytes. The planes stand
+/// one behind the other, and then, so many bytes on, the output: where buffers lie is not left to chance.
+fn pass(size: Size, rect: Rect, gap: usize) -> Pass {
+    let [left, top, right, bottom] = rect;
+    let pixels = u64::from(right - left) * u64::from(bottom - top);
+    let mut memory = planes(size);
+    let length = memory.len() / 3;
+    memory.resize(3 * length + gap + 4 * pixels as usize, 0);
+    Pass::new(pixels, move || {
+        let (planes, rest) = black_box(&mut memory).split_at_mut(3 * length);
+        let (out, (y, chroma)) = (&mut rest[gap..], planes.split_at(length));
+        let (u, v) = chroma.split_at(length);
+        let ours::Answer { number, count } = ours::to_rgba(size, [y, u, v], rect, out);
+        u64::from(number) + count as u64 + sample(out)
+    })
+}
+
+/// Random planes Y, U and V, one behind the other.
+fn planes(Size { width, height }: Size) -> Vec<u8> {
+    Noise::new(LONGEST).bytes(0, 3 * Sizes::exact(width, height).plane()).to_vec()
+}
+
+#[inline(never)]
+fn their_sum(picture: &Yuv444Frame, rect: &ExclusiveRectangle) -> u64 {
+    let rgba = picture.to_rgba(rect);
+    rgba.len() as u64 + sample(&rgba)
+}
