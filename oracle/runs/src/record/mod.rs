@@ -3,6 +3,7 @@
 //! Nothing here calls the library.
 
 mod payloads;
+mod pictures;
 mod views;
 
 use std::fmt::Write;
@@ -18,7 +19,7 @@ pub struct Sample {
 
 /// The samples of a seed, one for each program.
 pub fn samples(seed: u64) -> Vec<Sample> {
-    vec![payloads::sample(seed), views::sample(seed)]
+    vec![payloads::sample(seed), views::sample(seed), pictures::sample(seed)]
 }
 
 /// Adler-32 (RFC 1950), which the programs take too.

@@ -1,0 +1,145 @@
+// The calls: 0 is from RGBA, 1 picture to RGBA, 2 view to RGBA, 3 the main view onto a fresh picture, 4 onto one from RGBA.
+use crate::say;
+use picture::Size;
+use view::View;
+ghost use Prim.Native.Nat.{_<_};
+
+pub(crate) struct Call {
+    pub(crate) which: u16,
+    pub(crate) size: Size,
+    pub(crate) seed: u16,
+    pub(crate) view: View,
+    pub(crate) view_seed: u16,
+    pub(crate) count: u16,
+    pub(crate) rects: [u16; 12],
+}
+
+// Bytes from a seed: x starts as the seed; for each byte it becomes (75 x + 74) % 65537, and the byte is x % 256.
+fn paint(plane: &mut [u8], seed: usize)
+    requires { ⌜ seed < 131072 ⌝ }
+{
+    let n = plane.len();
+    let mut x = seed;
+    let mut k = 0;
+    while k < n {
+        x = (75 * x + 74) % 65537;
+        plane[k] = (x % 256) as u8;
+        k += 1;
+    }
+}
+
+// A picture of painted pixels.
+fn filled(size: Size, seed: u16, y: &mut [u8], u: &mut [u8], v: &mut [u8]) -> u32 {
+    let mut rgba = [0u8; 8192];
+    paint(&mut rgba, seed as usize);
+    picture::from_rgba(&rgba, size, y, u, v).number
+}
+
+fn from_rgba(c: Call) {
+    let mut y = [0u8; 4096];
+    let mut u = [0u8; 4096];
+    let mut v = [0u8; 4096];
+    let number = filled(c.size, c.seed, &mut y, &mut u, &mut v);
+    say::planes(number, c.size, &y, &u, &v);
+}
+
+fn to_rgba(c: Call) {
+    let mut y = [0u8; 4096];
+    let mut u = [0u8; 4096];
+    let mut v = [0u8; 4096];
+    let mut out = [0u8; 8192];
+    if filled(c.size, c.seed, &mut y, &mut u, &mut v) != 0 {
+        say::text(b" refused");
+        return;
+    }
+    let rect = convert::Rect {
+        left: c.rects[0],
+        top: c.rects[1],
+        right: c.rects[2],
+        bottom: c.rects[3],
+    };
+    let a = convert::to_rgba(c.size, &y, &u, &v, rect, &mut out);
+    say::pixels(a, &out);
+}
+
+// The painted planes of a view.
+fn view_planes(seed: u16, y: &mut [u8], u: &mut [u8], v: &mut [u8]) {
+    let first = seed as usize;
+    paint(y, first);
+    paint(u, first + 83);
+    paint(v, first + 167);
+}
+
+fn view_to_rgba(c: Call) {
+    let mut y = [0u8; 4096];
+    let mut u = [0u8; 4096];
+    let mut v = [0u8; 4096];
+    let mut out = [0u8; 8192];
+    view_planes(c.view_seed, &mut y, &mut u, &mut v);
+    let a = convert::view_to_rgba(c.view, &y, &u, &v, &mut out);
+    say::pixels(a, &out);
+}
+
+// The painted view goes into a picture.
+fn applied(c: Call, list: &[u16], y: &mut [u8], u: &mut [u8], v: &mut [u8]) -> u32 {
+    let mut vy = [0u8; 4096];
+    let mut vu = [0u8; 4096];
+    let mut vv = [0u8; 4096];
+    view_planes(c.view_seed, &mut vy, &mut vu, &mut vv);
+    combine::apply_main_view(c.size, y, u, v, list, c.view, &vy, &vu, &vv).number
+}
+
+// The picture that it goes into.
+fn begun(c: Call, y: &mut [u8], u: &mut [u8], v: &mut [u8]) -> u32 {
+    if c.which == 3 {
+        return picture::new(c.size, y, u, v).number;
+    }
+    filled(c.size, c.seed, y, u, v)
+}
+
+fn main_view(c: Call, list: &[u16]) {
+    let mut y = [0u8; 4096];
+    let mut u = [0u8; 4096];
+    let mut v = [0u8; 4096];
+    if begun(c, &mut y, &mut u, &mut v) != 0 {
+        say::text(b" refused");
+        return;
+    }
+    let number = applied(c, list, &mut y, &mut u, &mut v);
+    say::planes(number, c.size, &y, &u, &v);
+}
+
+// The first rectangles of the list, as many as the case counts.
+fn listed(c: Call, rects: &[u16]) {
+    let n = 4 * c.count as usize;
+    if n > rects.len() {
+        say::text(b" too many rectangles");
+        return;
+    }
+    main_view(c, &rects[0..n]);
+}
+
+fn run(c: Call) {
+    if c.which == 0 {
+        say::size(b": from_rgba ", c.size.width, c.size.height);
+        from_rgba(c);
+        return;
+    }
+    if c.which == 1 {
+        say::size(b": to_rgba ", c.size.width, c.size.height);
+        to_rgba(c);
+        return;
+    }
+    if c.which == 2 {
+        say::size(b": view_to_rgba ", c.view.width, c.view.height);
+        view_to_rgba(c);
+        return;
+    }
+    say::size(b": apply_main_view ", c.size.width, c.size.height);
+    listed(c, &c.rects);
+}
+
+pub(crate) fn line(c: Call) {
+    run(c);
+    say::text(b"\n");
+}
