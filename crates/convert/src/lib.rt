@@ -153,7 +153,10 @@ fn put_row(
     ensures { λ _. ⌜ now (out .exit) ≡ paint every (bytes (rowFrom left (pixelAt stride (now (y .entry)) (now (u .entry)) (now (v .entry)) row))) (now (out .entry)) ⌝ }
 {
     if row % 2 == 0 {
-        even_row(out, y, u, v, stride, row, left, n);
+        // No even row is past rows - 2. Said in the code too: then the compiler's own test that the output overlaps no plane, which it makes
+        // once for all rows, does not count a row below the last one.
+        let even = lent::least(row, rows - 2);
+        even_row(out, y, u, v, stride, even, left, n);
     } else {
         odd_row(out, y, u, v, stride, row, left, n);
     }

@@ -1,16 +1,26 @@
--- `convert::put_row` meets its contract: an even row of an even number of rows has a row below it, which the filter reads.
+-- `convert::put_row` meets its contract: an even row of an even number of rows has a row below it, which the filter reads. So it is at
+-- most rows - 2, and the least of the two is the row itself.
 -- Assumes nothing.
 use native.Mathlib.Omega.{arith}
 use borrow.Author.Needs.{needs}
+use mathlib.Core.Path.{_≡_}
 use Rattle.lent.proofs.Cells.{row-in}
 use Rattle.convert.proofs.Rules.{two-rows}
 use Rattle.convert.proofs.put_row.Statement.{statement}
 use Rattle.convert.proofs.put_row.Tie as tie
 
+sub-least : tie.Need-sub-least
+sub-least c = search needs
+
+least-requires : tie.Need-least-requires
+least-requires c κs = search needs
+
 even-row-requires : tie.Need-even-row-requires
 even-row-requires c κs =
-    let a = c .before .before .before .before .before .before .args in
+    let a = c .before .before .before .before .before .before .before .args in
+    let same : c .before .least .result ≡ a .row = omega arith in
     let fits = two-rows (a .stride) (a .rows) (a .row) (omega arith) (omega arith) (omega arith) in
+    rw same
     (record { exact = search needs; inside = search needs; y-fits = omega arith; u-fits = omega arith; v-fits = omega arith }, search needs)
 
 odd-row-requires : tie.Need-odd-row-requires
@@ -23,7 +33,10 @@ same-length : tie.Need-same-length
 same-length c = search needs
 
 returns : tie.Need-returns
-returns c = search needs
+returns c =
+    let a = c .before .before .before .before .before .before .before .before .before .before .args in
+    let same : c .before .before .before .before .least .result ≡ a .row = omega arith in
+    rw same at (c .before .before .even-row .ensures)
 
 same-length-2 : tie.Need-same-length-2
 same-length-2 c = search needs
@@ -34,4 +47,4 @@ returns-2 c = search needs
 pub put-row-spec : {M : Type 1} → statement M
 put-row-spec =
     tie.close
-    (tie.spec even-row-requires odd-row-requires same-length returns same-length-2 returns-2)
+    (tie.spec sub-least least-requires even-row-requires odd-row-requires same-length returns same-length-2 returns-2)
