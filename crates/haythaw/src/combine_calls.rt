@@ -1,7 +1,9 @@
 // Views go into a picture, within the rectangles of a list.
 ghost use mathlib.Core.List.{[], _∷_};
 ghost use Rattle.lent.specs.Outcome.{answerOf};
+ghost use Rattle.layout.specs.declared.Layout.the-variants.{V1, V2};
 ghost use Rattle.combine.specs.Main.{MainOutcome};
+ghost use Rattle.auxiliary.specs.Auxiliary.{AuxOutcome};
 ghost use Rattle.haythaw.specs.Sizes.{sizesOf, sizeOf};
 use picture::Size;
 use view::View;
@@ -36,4 +38,70 @@ pub extern "C" fn haythaw_apply_main_view(
     };
     let size = Size { width, height };
     combine::apply_main_view(size, y, u, v, rects, w, view_y, view_u, view_v).number
+}
+
+// The auxiliary view of layout V1: the chroma that the main view leaves out, within the blocks that the rectangles touch; Y is lent and
+// never written. 0, 1, 7, 3 or 4.
+#[no_mangle]
+pub extern "C" fn haythaw_apply_auxiliary_v1(
+    width: u16,
+    height: u16,
+    y: &mut [u8],
+    u: &mut [u8],
+    v: &mut [u8],
+    rects: &[u16],
+    view_width: u16,
+    view_height: u16,
+    luma_stride: usize,
+    chroma_stride: usize,
+    view_y: &[u8],
+    view_u: &[u8],
+    view_v: &[u8],
+) -> u32
+    ensures { λ r. ⌜ AuxOutcome V1 (sizeOf width height) (sizesOf «view_width» «view_height» «luma_stride» «chroma_stride»)
+        (now (rects .entry)) (now («view_y» .entry)) (now («view_u» .entry)) (now («view_v» .entry))
+        (now (y .entry)) (now (u .entry)) (now (v .entry))
+        (answerOf r 0) (now (y .exit) ∷ now (u .exit) ∷ now (v .exit) ∷ []) ⌝ }
+{
+    let w = View {
+        width: view_width,
+        height: view_height,
+        luma_stride,
+        chroma_stride,
+    };
+    let size = Size { width, height };
+    auxiliary::apply_auxiliary_v1(size, y, u, v, rects, w, view_y, view_u, view_v).number
+}
+
+// The auxiliary view of layout V2: the chroma that the main view leaves out, within the blocks that the rectangles touch; Y is lent and
+// never written. 0, 1, 7, 3 or 4.
+#[no_mangle]
+pub extern "C" fn haythaw_apply_auxiliary_v2(
+    width: u16,
+    height: u16,
+    y: &mut [u8],
+    u: &mut [u8],
+    v: &mut [u8],
+    rects: &[u16],
+    view_width: u16,
+    view_height: u16,
+    luma_stride: usize,
+    chroma_stride: usize,
+    view_y: &[u8],
+    view_u: &[u8],
+    view_v: &[u8],
+) -> u32
+    ensures { λ r. ⌜ AuxOutcome V2 (sizeOf width height) (sizesOf «view_width» «view_height» «luma_stride» «chroma_stride»)
+        (now (rects .entry)) (now («view_y» .entry)) (now («view_u» .entry)) (now («view_v» .entry))
+        (now (y .entry)) (now (u .entry)) (now (v .entry))
+        (answerOf r 0) (now (y .exit) ∷ now (u .exit) ∷ now (v .exit) ∷ []) ⌝ }
+{
+    let w = View {
+        width: view_width,
+        height: view_height,
+        luma_stride,
+        chroma_stride,
+    };
+    let size = Size { width, height };
+    auxiliary::apply_auxiliary_v2(size, y, u, v, rects, w, view_y, view_u, view_v).number
 }

@@ -8,4 +8,5 @@ pub mod combine_calls; // views into a picture
 pub mod convert_calls; // RGBA of a picture and of a view
 pub mod payload_calls; // the form of an H.264 payload
 pub mod picture_calls; // a 4:4:4 picture, fresh or of RGBA pixels
+pub mod split_calls; // both views of a picture
 pub mod view_calls; // a 4:2:0 view and its rows

@@ -1,0 +1,25 @@
+-- `haythaw_apply_auxiliary_v2` meets its contract: it hands all over, and of the answer it hands back the number.
+-- Assumes nothing.
+use borrow.Author.Needs.{needs}
+use Rattle.haythaw.proofs.Numbers.{number-alone}
+use Rattle.haythaw.proofs.combine_calls.haythaw_apply_auxiliary_v2.Statement.{statement}
+use Rattle.haythaw.proofs.combine_calls.haythaw_apply_auxiliary_v2.Tie as tie
+
+apply-auxiliary-v2-requires : tie.Need-apply-auxiliary-v2-requires
+apply-auxiliary-v2-requires c κs = search needs
+
+same-length : tie.Need-same-length
+same-length c = search needs
+
+same-length-2 : tie.Need-same-length-2
+same-length-2 c = search needs
+
+same-length-3 : tie.Need-same-length-3
+same-length-3 c = search needs
+
+returns : tie.Need-returns
+returns c = number-alone (c .before .before .before .before .before .before .apply-auxiliary-v2 .ensures)
+
+pub haythaw-apply-auxiliary-v2-spec : {M : Type 1} → statement M
+haythaw-apply-auxiliary-v2-spec =
+    tie.close (tie.spec apply-auxiliary-v2-requires same-length same-length-2 same-length-3 returns)

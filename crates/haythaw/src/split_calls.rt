@@ -1,0 +1,77 @@
+// Both views of a picture.
+ghost use mathlib.Core.List.{[], _∷_};
+ghost use Rattle.layout.specs.declared.Layout.the-variants.{V1, V2};
+ghost use Rattle.split.specs.Split.{planes, SplitEnds};
+ghost use Rattle.haythaw.specs.Sizes.{sizeOf};
+use picture::Size;
+use split::Views;
+
+// Both views of the picture, the auxiliary one in layout V1, and their sizes and strides; or 1, 5 or 6.
+#[no_mangle]
+pub extern "C" fn haythaw_split_v1(
+    width: u16,
+    height: u16,
+    y: &[u8],
+    u: &[u8],
+    v: &[u8],
+    main_y: &mut [u8],
+    main_u: &mut [u8],
+    main_v: &mut [u8],
+    aux_y: &mut [u8],
+    aux_u: &mut [u8],
+    aux_v: &mut [u8],
+) -> Views
+    ensures { λ r. ⌜ SplitEnds V1 (sizeOf width height) (planes (now (y .entry)) (now (u .entry)) (now (v .entry)))
+        (planes (now («main_y» .entry)) (now («main_u» .entry)) (now («main_v» .entry)))
+        (planes (now («aux_y» .entry)) (now («aux_u» .entry)) (now («aux_v» .entry))) r
+        (now («main_y» .exit) ∷ now («main_u» .exit) ∷ now («main_v» .exit)
+        ∷ now («aux_y» .exit) ∷ now («aux_u» .exit) ∷ now («aux_v» .exit) ∷ []) ⌝ }
+{
+    split::split_v1(
+        Size { width, height },
+        y,
+        u,
+        v,
+        main_y,
+        main_u,
+        main_v,
+        aux_y,
+        aux_u,
+        aux_v,
+    )
+}
+
+// Both views of the picture, the auxiliary one in layout V2, and their sizes and strides; or 1, 5 or 6.
+#[no_mangle]
+pub extern "C" fn haythaw_split_v2(
+    width: u16,
+    height: u16,
+    y: &[u8],
+    u: &[u8],
+    v: &[u8],
+    main_y: &mut [u8],
+    main_u: &mut [u8],
+    main_v: &mut [u8],
+    aux_y: &mut [u8],
+    aux_u: &mut [u8],
+    aux_v: &mut [u8],
+) -> Views
+    ensures { λ r. ⌜ SplitEnds V2 (sizeOf width height) (planes (now (y .entry)) (now (u .entry)) (now (v .entry)))
+        (planes (now («main_y» .entry)) (now («main_u» .entry)) (now («main_v» .entry)))
+        (planes (now («aux_y» .entry)) (now («aux_u» .entry)) (now («aux_v» .entry))) r
+        (now («main_y» .exit) ∷ now («main_u» .exit) ∷ now («main_v» .exit)
+        ∷ now («aux_y» .exit) ∷ now («aux_u» .exit) ∷ now («aux_v» .exit) ∷ []) ⌝ }
+{
+    split::split_v2(
+        Size { width, height },
+        y,
+        u,
+        v,
+        main_y,
+        main_u,
+        main_v,
+        aux_y,
+        aux_u,
+        aux_v,
+    )
+}
