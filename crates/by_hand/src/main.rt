@@ -1,7 +1,11 @@
 // The lines of document 01, "Numbers worked by hand", that are not marked P: each is run through the public functions, and the file
 // `stdout` beside src/ was written by hand from the document.
 use libc::STDOUT_FILENO;
+use picture::Size;
+use view::View;
+ghost use mathlib.Core.Path.{_≡_};
 ghost use Prim.Native.Nat.{_≤_, _<_};
+ghost use lib.ListN.{length};
 
 fn wide(x: u8) -> u64
     ensures { λ r. ⌜ r < 256 ⌝ }
@@ -71,6 +75,145 @@ fn first_unit(n: usize)
     io::write_all(STDOUT_FILENO, b"\n");
 }
 
+// The places of s that are not 0, each with a space in front.
+fn places(s: &[u8]) {
+    let mut i = 0;
+    while i < s.len() {
+        if s[i] != 0 {
+            io::write_all(STDOUT_FILENO, b" ");
+            io::print_decimal(STDOUT_FILENO, i as u64);
+        }
+        i += 1;
+    }
+}
+
+// The rows, of 16 bytes each, whose column `col` is not 0, each with a space in front.
+fn rows(plane: &[u8], col: usize)
+    requires { ⌜ length (now plane) ≡ 256 ⌝ }
+    requires { ⌜ col < 16 ⌝ }
+{
+    let mut row = 0;
+    while row < 16 {
+        if plane[16 * row + col] != 0 {
+            io::write_all(STDOUT_FILENO, b" ");
+            io::print_decimal(STDOUT_FILENO, row as u64);
+        }
+        row += 1;
+    }
+}
+
+// A main view of 16x16 ones goes into a 5x5 picture of zeros over one rectangle: the luma columns of row 0, and the luma and chroma rows
+// of column `col`.
+fn rectangle(rect: &[u16], col: usize)
+    requires { ⌜ col < 16 ⌝ }
+{
+    let mut y = [0u8; 256];
+    let mut u = [0u8; 256];
+    let mut v = [0u8; 256];
+    let size = Size {
+        width: 5,
+        height: 5,
+    };
+    let w = View {
+        width: 16,
+        height: 16,
+        luma_stride: 16,
+        chroma_stride: 8,
+    };
+    let luma = [1u8; 256];
+    let chroma = [1u8; 64];
+    combine::apply_main_view(
+        size,
+        &mut y,
+        &mut u,
+        &mut v,
+        rect,
+        w,
+        &luma,
+        &chroma,
+        &chroma,
+    );
+    io::write_all(STDOUT_FILENO, b"luma columns");
+    places(&y[0..16]);
+    io::write_all(STDOUT_FILENO, b", luma rows");
+    rows(&y, col);
+    io::write_all(STDOUT_FILENO, b", chroma rows");
+    rows(&u, col);
+    io::write_all(STDOUT_FILENO, b"\n");
+}
+
+// An auxiliary view of 16x12 ones, layout V1, goes into a picture of zeros as large, one rectangle covering it: the rows of column 1.
+fn v1_16x12() {
+    let mut y = [0u8; 256];
+    let mut u = [0u8; 256];
+    let mut v = [0u8; 256];
+    let size = Size {
+        width: 16,
+        height: 12,
+    };
+    let w = View {
+        width: 16,
+        height: 12,
+        luma_stride: 16,
+        chroma_stride: 8,
+    };
+    let luma = [1u8; 192];
+    let chroma = [1u8; 48];
+    let rect = [0u16, 0, 16, 12];
+    auxiliary::apply_auxiliary_v1(
+        size,
+        &mut y,
+        &mut u,
+        &mut v,
+        &rect,
+        w,
+        &luma,
+        &chroma,
+        &chroma,
+    );
+    io::write_all(STDOUT_FILENO, b"V1, view 16x12: U rows");
+    rows(&u, 1);
+    io::write_all(STDOUT_FILENO, b", V rows");
+    rows(&v, 1);
+    io::write_all(STDOUT_FILENO, b"\n");
+}
+
+// An auxiliary view of 20x4 ones, layout V2, goes into a picture of zeros as large, one rectangle covering it: the columns of row 0.
+fn v2_width_20() {
+    let mut y = [0u8; 512];
+    let mut u = [0u8; 512];
+    let mut v = [0u8; 512];
+    let size = Size {
+        width: 20,
+        height: 4,
+    };
+    let w = View {
+        width: 20,
+        height: 4,
+        luma_stride: 20,
+        chroma_stride: 10,
+    };
+    let luma = [1u8; 80];
+    let chroma = [1u8; 20];
+    let rect = [0u16, 0, 20, 4];
+    auxiliary::apply_auxiliary_v2(
+        size,
+        &mut y,
+        &mut u,
+        &mut v,
+        &rect,
+        w,
+        &luma,
+        &chroma,
+        &chroma,
+    );
+    io::write_all(STDOUT_FILENO, b"V2, view width 20: U columns");
+    places(&u[0..32]);
+    io::write_all(STDOUT_FILENO, b", V columns");
+    places(&v[0..32]);
+    io::write_all(STDOUT_FILENO, b"\n");
+}
+
 fn main() {
     filter(30, 40, 40, 40);
     filter(225, 100, 100, 100);
@@ -79,4 +222,12 @@ fn main() {
     unit(&line);
     first_unit(256);
     first_unit(511);
+    io::write_all(STDOUT_FILENO, b"rectangle 3 0 5 2: ");
+    let narrow = [3u16, 0, 5, 2];
+    rectangle(&narrow, 3);
+    io::write_all(STDOUT_FILENO, b"rectangle 0 0 2 6: ");
+    let low = [0u16, 0, 2, 6];
+    rectangle(&low, 0);
+    v1_16x12();
+    v2_width_20();
 }
