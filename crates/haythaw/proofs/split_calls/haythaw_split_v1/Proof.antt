@@ -1,0 +1,33 @@
+-- `haythaw_split_v1` meets its contract: it hands all over, and hands back what it is given.
+-- Assumes nothing.
+use borrow.Author.Needs.{needs}
+use Rattle.haythaw.proofs.split_calls.haythaw_split_v1.Statement.{statement}
+use Rattle.haythaw.proofs.split_calls.haythaw_split_v1.Tie as tie
+
+split-v1-requires : tie.Need-split-v1-requires
+split-v1-requires c κs = search needs
+
+same-length : tie.Need-same-length
+same-length c = search needs
+
+same-length-2 : tie.Need-same-length-2
+same-length-2 c = search needs
+
+same-length-3 : tie.Need-same-length-3
+same-length-3 c = search needs
+
+same-length-4 : tie.Need-same-length-4
+same-length-4 c = search needs
+
+same-length-5 : tie.Need-same-length-5
+same-length-5 c = search needs
+
+same-length-6 : tie.Need-same-length-6
+same-length-6 c = search needs
+
+returns : tie.Need-returns
+returns c = c .before .before .before .before .before .before .before .before .before .before .before .before .split-v1 .ensures
+
+pub haythaw-split-v1-spec : {M : Type 1} → statement M
+haythaw-split-v1-spec =
+    tie.close (tie.spec split-v1-requires same-length same-length-2 same-length-3 same-length-4 same-length-5 same-length-6 returns)
