@@ -1,0 +1,204 @@
+/* Haythaw: two 4:2:0 views become one 4:4:4 picture and back (AVC444 and AVC444v2 of MS-RDPEGFX), proved.
+ *
+ * What a caller owes, and no call can check:
+ *
+ *   - A length is true: the buffer has at least as many elements as the count beside its pointer says.
+ *     Counts are in elements: bytes, or in `rects` numbers of 16 bits.
+ *   - A buffer that is written overlaps no other buffer of the same call. Buffers that are only read may overlap.
+ *   - A pointer with count 0 may be null.
+ *
+ * Nothing else is owed. Every call is proved total: for any sizes, strides, lists, lengths and bytes it ends, answers as said
+ * below, and touches nothing outside the lent buffers. It checks what it is handed by itself, and refuses by number. A refusal
+ * changes no byte of any buffer. The library allocates nothing, keeps nothing between calls and starts no thread, so calls
+ * on different buffers may run at the same time.
+ *
+ * Words
+ *
+ *   picture   width x height pixels in three planes y, u, v of `stride` x `rows` bytes each, where stride is the width and rows
+ *             the height, both rounded up to 16. A call works these out itself. Bytes of a lent plane past stride x rows
+ *             are never read and never change.
+ *   view      a 4:2:0 picture: view_width x view_height luma samples, row r from r x luma_stride on, and in view_u and
+ *             view_v half of both, rounded up, row r from r x chroma_stride on. Bytes between the width and the stride, and after
+ *             the last row, reach no answer.
+ *   list      `rects`: rectangles, four numbers each: left, top, right, bottom. Right and bottom are the first column and row
+ *             outside. They may be empty, reversed, off the picture, repeated and in any order.
+ *   widened   a rectangle with left and top rounded down to even, and right (at most the width) and bottom (at most the
+ *             height) rounded up to even: the 2x2 blocks that it touches.
+ *   RGBA      four bytes a pixel, row after row with nothing between.
+ *
+ * Link with libhaythaw.a, which oracle/library.sh makes for this machine. It is for machines whose size_t has 64 bits.
+ */
+#ifndef HAYTHAW_H
+#define HAYTHAW_H
+
+#include <stddef.h>
+#include <stdint.h>
+#ifndef __cplusplus
+#include <stdbool.h>
+#endif
+
+#ifdef __cplusplus
+extern "C" {
+#endif
+
+typedef char haythaw_size_t_has_64_bits[sizeof(size_t) == 8 ? 1 : -1];
+
+/* The numbers that a call may answer. Where several would be true, a call answers the first in the order beside its name. */
+enum haythaw_number {
+    HAYTHAW_DONE = 0,         /* done */
+    HAYTHAW_PLANE_SHORT = 1,  /* a lent picture plane is shorter than stride x rows */
+    HAYTHAW_RGBA_SHORT = 2,   /* RGBA input is shorter than width x height x 4 */
+    HAYTHAW_VIEW_NARROW = 3,  /* a view's luma stride is below its width, or its chroma stride below its chroma width */
+    HAYTHAW_VIEW_SHORT = 4,   /* a view's plane is shorter than its stride x its plane height, however large that product */
+    HAYTHAW_SPLIT_LARGE = 5,  /* split: stride or rows is above 65,535 */
+    HAYTHAW_OUTPUT_SHORT = 6, /* an output buffer is shorter than what would be written */
+    HAYTHAW_LIST_UNEVEN = 7   /* the list's length is not a multiple of 4 */
+};
+
+/* A number and how many bytes were written. In a refusal the count is 0. */
+typedef struct haythaw_answer {
+    uint32_t number;
+    size_t count;
+} haythaw_answer;
+
+/* Where a row of a view is, in the caller's own plane: `length` bytes from `start` on. A row that the view does not have is no
+ * refusal: number 0, not present, start and length 0. A present row of a view of width 0 has length 0. In a refusal present is
+ * false, start and length are 0. It stands for a count that is always 0. */
+typedef struct haythaw_row {
+    uint32_t number;
+    bool present;
+    size_t start;
+    size_t length;
+} haythaw_row;
+
+/* What both views of a picture are like: width is the picture's stride and height its rows, luma_stride the stride and
+ * chroma_stride half of it. In a refusal all four are 0. It stands for a count that is always 0. */
+typedef struct haythaw_views {
+    uint32_t number;
+    uint16_t width;
+    uint16_t height;
+    size_t luma_stride;
+    size_t chroma_stride;
+} haythaw_views;
+
+/* A uint32_t result below is a number of the table and stands for a count that is always 0. */
+
+/* ---- A 4:4:4 picture ---- */
+
+/* Bytes of a picture's three planes together, 3 x stride x rows. Never refuses. */
+size_t haythaw_allocation_size(uint16_t width, uint16_t height);
+
+/* A fresh picture: Y 0, U and V 128, padding too.
+ * Answers 0 or 1. Writes the first stride x rows bytes of y, u and v; bytes after them stay. */
+uint32_t haythaw_new(uint16_t width, uint16_t height, uint8_t *y, size_t y_count, uint8_t *u, size_t u_count,
+                     uint8_t *v, size_t v_count);
+
+/* The picture of width x height RGBA pixels: each converted, then U and V of every 2x2 block's even-even place replaced by the
+ * block's average. Padding is as in a fresh picture before the averages. Alpha, and input after width x height x 4 bytes,
+ * is ignored.
+ * Answers 0, 2 or 1, in this order of refusals. Writes the first stride x rows bytes of y, u and v; bytes after them stay. */
+uint32_t haythaw_from_rgba(const uint8_t *rgba, size_t rgba_count, uint16_t width, uint16_t height,
+                           uint8_t *y, size_t y_count, uint8_t *u, size_t u_count, uint8_t *v, size_t v_count);
+
+/* The rectangle's pixels as RGBA, alpha 255. The rectangle is clipped to the picture; an empty one writes nothing, with count 0
+ * and number 0. At even rows and columns U and V go through the reverse filter on their way; the planes keep their averages.
+ * Answers 0, 1 or 6, in this order of refusals; the count is 4 x the clipped pixels. Writes the first count bytes of out; bytes
+ * after them stay. */
+haythaw_answer haythaw_to_rgba(uint16_t width, uint16_t height, const uint8_t *y, size_t y_count,
+                               const uint8_t *u, size_t u_count, const uint8_t *v, size_t v_count,
+                               uint16_t left, uint16_t top, uint16_t right, uint16_t bottom, uint8_t *out, size_t out_count);
+
+/* ---- Views into a picture, within a list of rectangles ----
+ *
+ * All three answer 0, 1, 7, 3 or 4, in this order of refusals, and take what a view has: samples that it lacks stay as they
+ * were. The order of the list has no effect. An empty list changes nothing. */
+
+/* The main view: Y within the rectangles, U and V within the widened rectangles, each chroma sample at all four places of its
+ * block. Every other byte of y, u and v stays. */
+uint32_t haythaw_apply_main_view(uint16_t width, uint16_t height, uint8_t *y, size_t y_count, uint8_t *u, size_t u_count,
+                                 uint8_t *v, size_t v_count, const uint16_t *rects, size_t rects_count,
+                                 uint16_t view_width, uint16_t view_height, size_t luma_stride, size_t chroma_stride,
+                                 const uint8_t *view_y, size_t view_y_count, const uint8_t *view_u, size_t view_u_count,
+                                 const uint8_t *view_v, size_t view_v_count);
+
+/* The auxiliary view of AVC444 (V1): within the widened rectangles, U and V at the three places of each block that the main
+ * view has no sample of its own for. y is lent and never written; every other byte of u and v stays. */
+uint32_t haythaw_apply_auxiliary_v1(uint16_t width, uint16_t height, uint8_t *y, size_t y_count, uint8_t *u, size_t u_count,
+                                    uint8_t *v, size_t v_count, const uint16_t *rects, size_t rects_count,
+                                    uint16_t view_width, uint16_t view_height, size_t luma_stride, size_t chroma_stride,
+                                    const uint8_t *view_y, size_t view_y_count, const uint8_t *view_u, size_t view_u_count,
+                                    const uint8_t *view_v, size_t view_v_count);
+
+/* The auxiliary view of AVC444v2 (V2): the same places, kept elsewhere in the view. y is lent and never written; every other
+ * byte of u and v stays. */
+uint32_t haythaw_apply_auxiliary_v2(uint16_t width, uint16_t height, uint8_t *y, size_t y_count, uint8_t *u, size_t u_count,
+                                    uint8_t *v, size_t v_count, const uint16_t *rects, size_t rects_count,
+                                    uint16_t view_width, uint16_t view_height, size_t luma_stride, size_t chroma_stride,
+                                    const uint8_t *view_y, size_t view_y_count, const uint8_t *view_u, size_t view_u_count,
+                                    const uint8_t *view_v, size_t view_v_count);
+
+/* ---- A picture into its two views ----
+ *
+ * Both answer 0, 1, 5 or 6, in this order of refusals: a width or height above 65,520 is refused with 5, also where the other
+ * is 0. Main: the luma plane, and the even-even chroma. Auxiliary: the chroma of the other three places of each block. They
+ * write the first stride x rows bytes of main_y and aux_y and the first stride/2 x rows/2 bytes of main_u, main_v, aux_u and
+ * aux_v, every one; bytes after them stay. The picture is only read. */
+
+/* The auxiliary view in the layout of AVC444 (V1). */
+haythaw_views haythaw_split_v1(uint16_t width, uint16_t height, const uint8_t *y, size_t y_count,
+                               const uint8_t *u, size_t u_count, const uint8_t *v, size_t v_count,
+                               uint8_t *main_y, size_t main_y_count, uint8_t *main_u, size_t main_u_count,
+                               uint8_t *main_v, size_t main_v_count, uint8_t *aux_y, size_t aux_y_count,
+                               uint8_t *aux_u, size_t aux_u_count, uint8_t *aux_v, size_t aux_v_count);
+
+/* The auxiliary view in the layout of AVC444v2 (V2). */
+haythaw_views haythaw_split_v2(uint16_t width, uint16_t height, const uint8_t *y, size_t y_count,
+                               const uint8_t *u, size_t u_count, const uint8_t *v, size_t v_count,
+                               uint8_t *main_y, size_t main_y_count, uint8_t *main_u, size_t main_u_count,
+                               uint8_t *main_v, size_t main_v_count, uint8_t *aux_y, size_t aux_y_count,
+                               uint8_t *aux_u, size_t aux_u_count, uint8_t *aux_v, size_t aux_v_count);
+
+/* ---- A 4:2:0 view by itself ----
+ *
+ * All of these refuse with 3 or 4, in this order, and only read the view. */
+
+/* Whether these sizes and planes are a view. Answers 0, 3 or 4. Writes nothing. */
+uint32_t haythaw_view(uint16_t view_width, uint16_t view_height, size_t luma_stride, size_t chroma_stride,
+                      const uint8_t *view_y, size_t view_y_count, const uint8_t *view_u, size_t view_u_count,
+                      const uint8_t *view_v, size_t view_v_count);
+
+/* Where a row is: of luma in view_y, of U in view_u, of V in view_v. Luma has view_height rows of view_width bytes; U and V have
+ * half of both, rounded up. Answers 0, 3 or 4; any row number may be asked for. Writes nothing. */
+haythaw_row haythaw_luma_row(uint16_t view_width, uint16_t view_height, size_t luma_stride, size_t chroma_stride,
+                             const uint8_t *view_y, size_t view_y_count, const uint8_t *view_u, size_t view_u_count,
+                             const uint8_t *view_v, size_t view_v_count, size_t row);
+haythaw_row haythaw_u_row(uint16_t view_width, uint16_t view_height, size_t luma_stride, size_t chroma_stride,
+                          const uint8_t *view_y, size_t view_y_count, const uint8_t *view_u, size_t view_u_count,
+                          const uint8_t *view_v, size_t view_v_count, size_t row);
+haythaw_row haythaw_v_row(uint16_t view_width, uint16_t view_height, size_t luma_stride, size_t chroma_stride,
+                          const uint8_t *view_y, size_t view_y_count, const uint8_t *view_u, size_t view_u_count,
+                          const uint8_t *view_v, size_t view_v_count, size_t row);
+
+/* The view as RGBA, alpha 255, with the chroma of row/2, column/2 and no filter.
+ * Answers 0, 3, 4 or 6, in this order of refusals; the count is 4 x view_width x view_height. Writes the first count bytes of
+ * out; bytes after them stay. */
+haythaw_answer haythaw_view_to_rgba(uint16_t view_width, uint16_t view_height, size_t luma_stride, size_t chroma_stride,
+                                    const uint8_t *view_y, size_t view_y_count, const uint8_t *view_u, size_t view_u_count,
+                                    const uint8_t *view_v, size_t view_v_count, uint8_t *out, size_t out_count);
+
+/* ---- The form of an H.264 payload ---- */
+
+/* Whether a payload is length-prefixed: not empty, not starting 00 00 01 or 00 00 00 01, and wholly made of units, each a
+ * big-endian length of 32 bits above 0 and that many bytes. Never refuses. Writes nothing. */
+bool haythaw_is_avc_format(const uint8_t *data, size_t data_count);
+
+/* The units of a length-prefixed payload, each behind 00 00 00 01 in place of its length. It stops at a unit that runs past the
+ * end, or at fewer than 4 bytes, and writes what came before. The output is never longer than the input.
+ * Answers 0 or 6; the count is the bytes written. Writes the first count bytes of out; bytes after them stay. */
+haythaw_answer haythaw_avc_to_annex_b(const uint8_t *data, size_t data_count, uint8_t *out, size_t out_count);
+
+#ifdef __cplusplus
+}
+#endif
+
+#endif
