@@ -1,0 +1,105 @@
+/* Every call of haythaw.h behind one function, over one record of arguments and one of results: so that test.c can do to each
+ * argument of each call the same thing. */
+#ifndef CALLS_H
+#define CALLS_H
+
+#include "haythaw.h"
+
+enum call {
+    NEW, FROM_RGBA, TO_RGBA, MAIN, AUX_V1, AUX_V2, SPLIT_V1, SPLIT_V2, VIEW, LUMA_ROW, U_ROW, V_ROW, VIEW_TO_RGBA, IS_AVC, ANNEX_B, CALLS
+};
+static const char *const call_names[CALLS] = {
+    "new", "from_rgba", "to_rgba", "apply_main_view", "apply_auxiliary_v1", "apply_auxiliary_v2", "split_v1", "split_v2",
+    "view", "luma_row", "u_row", "v_row", "view_to_rgba", "is_avc_format", "avc_to_annex_b"};
+
+enum slice { Y, U, V, RGBA, RECTS, VIEW_Y, VIEW_U, VIEW_V, OUT, DATA, MAIN_Y, MAIN_U, MAIN_V, AUX_Y, AUX_U, AUX_V, SLICES };
+static const char *const slice_names[SLICES] = {"y", "u", "v", "rgba", "rects", "view_y", "view_u", "view_v", "out", "data",
+                                                "main_y", "main_u", "main_v", "aux_y", "aux_u", "aux_v"};
+
+typedef struct {
+    uint16_t width, height;                 /* of the picture */
+    uint16_t left, top, right, bottom;      /* to_rgba's rectangle */
+    uint16_t view_width, view_height;
+    size_t luma_stride, chroma_stride, row; /* of the view */
+    void *at[SLICES];
+    size_t count[SLICES];
+} Args;
+
+/* What a call answered; a field that its result does not have is 0. */
+typedef struct {
+    uint32_t number;
+    bool present, yes;
+    uint16_t width, height;
+    size_t count, start, length, luma_stride, chroma_stride;
+} Result;
+
+#define LENT(slice) a->at[slice], a->count[slice]
+#define PICTURE a->width, a->height, LENT(Y), LENT(U), LENT(V)
+#define A_VIEW \
+    a->view_width, a->view_height, a->luma_stride, a->chroma_stride, LENT(VIEW_Y), LENT(VIEW_U), LENT(VIEW_V)
+#define BOTH_VIEWS LENT(MAIN_Y), LENT(MAIN_U), LENT(MAIN_V), LENT(AUX_Y), LENT(AUX_U), LENT(AUX_V)
+
+static Result of_number(uint32_t number)
+{
+    Result r = {0};
+    r.number = number;
+    return r;
+}
+
+static Result of_answer(haythaw_answer answer)
+{
+    Result r = of_number(answer.number);
+    r.count = answer.count;
+    return r;
+}
+
+static Result of_row(haythaw_row row)
+{
+    Result r = of_number(row.number);
+    r.present = row.present;
+    r.start = row.start;
+    r.length = row.length;
+    return r;
+}
+
+static Result of_views(haythaw_views views)
+{
+    Result r = of_number(views.number);
+    r.width = views.width;
+    r.height = views.height;
+    r.luma_stride = views.luma_stride;
+    r.chroma_stride = views.chroma_stride;
+    return r;
+}
+
+static Result of_bool(bool yes)
+{
+    Result r = of_number(0);
+    r.yes = yes;
+    return r;
+}
+
+static Result run(enum call call, const Args *a)
+{
+    switch (call) {
+    case NEW: return of_number(haythaw_new(PICTURE));
+    case FROM_RGBA: return of_number(haythaw_from_rgba(LENT(RGBA), PICTURE));
+    case TO_RGBA: return of_answer(haythaw_to_rgba(PICTURE, a->left, a->top, a->right, a->bottom, LENT(OUT)));
+    case MAIN: return of_number(haythaw_apply_main_view(PICTURE, LENT(RECTS), A_VIEW));
+    case AUX_V1: return of_number(haythaw_apply_auxiliary_v1(PICTURE, LENT(RECTS), A_VIEW));
+    case AUX_V2: return of_number(haythaw_apply_auxiliary_v2(PICTURE, LENT(RECTS), A_VIEW));
+    case SPLIT_V1: return of_views(haythaw_split_v1(PICTURE, BOTH_VIEWS));
+    case SPLIT_V2: return of_views(haythaw_split_v2(PICTURE, BOTH_VIEWS));
+    case VIEW: return of_number(haythaw_view(A_VIEW));
+    case LUMA_ROW: return of_row(haythaw_luma_row(A_VIEW, a->row));
+    case U_ROW: return of_row(haythaw_u_row(A_VIEW, a->row));
+    case V_ROW: return of_row(haythaw_v_row(A_VIEW, a->row));
+    case VIEW_TO_RGBA: return of_answer(haythaw_view_to_rgba(A_VIEW, LENT(OUT)));
+    case IS_AVC: return of_bool(haythaw_is_avc_format(LENT(DATA)));
+    case ANNEX_B: return of_answer(haythaw_avc_to_annex_b(LENT(DATA), LENT(OUT)));
+    case CALLS: break;
+    }
+    return of_number(UINT32_MAX);
+}
+
+#endif

@@ -1,0 +1,78 @@
+#!/usr/bin/env bash
+# The C boundary: compiles bind/c/test.c against the library for this machine and runs it, plainly, with the compiler's
+# sanitizers and under valgrind, as far as these are at hand; compiles the example, and the header as C++; and looks at what the
+# library asks of the program that links it. One line for each, and the count of the plain run. Status 1 if anything is wrong.
+set -euo pipefail
+root=$(cd "$(dirname "${BASH_SOURCE[0]}")/.." && pwd -P)
+cd "$root"
+
+if ! command -v cc >/dev/null; then
+    echo 'c: not run: there is no C compiler (cc)'
+    exit 0
+fi
+oracle/library.sh
+library=oracle/build/libhaythaw.a
+made=$(mktemp -d)
+trap 'rm -rf "$made"' EXIT
+strict=(-std=c99 -Wall -Wextra -Wpedantic -Werror -O1 -g)
+ran=() left=()
+
+# Runs a test whose last line has to end in ' 0 wrong', and shows that line; all that it said where it fails.
+passes() { # NAME WORDS...
+    local name=$1
+    shift
+    if ! "$@" >"$made/said" 2>&1 || [[ $(tail -n 1 "$made/said") != *' 0 wrong' ]]; then
+        cat "$made/said"
+        echo "c: FAILED: $name"
+        exit 1
+    fi
+    ran+=("$name")
+}
+
+cc "${strict[@]}" bind/c/test.c "$library" -o "$made/test"
+passes plain "$made/test"
+verdict=$(tail -n 1 "$made/said")
+
+sanitizers=(-fsanitize=address,undefined -fno-sanitize-recover=all)
+echo 'int main(void) { return 0; }' >"$made/empty.c"
+if cc "${sanitizers[@]}" "$made/empty.c" -o "$made/empty" 2>/dev/null && "$made/empty"; then
+    cc "${strict[@]}" "${sanitizers[@]}" bind/c/test.c "$library" -o "$made/sanitized"
+    passes sanitizers "$made/sanitized"
+else
+    left+=(sanitizers)
+fi
+
+if command -v valgrind >/dev/null; then
+    passes valgrind valgrind -q --error-exitcode=9 --leak-check=full "$made/test" heap
+else
+    left+=(valgrind)
+fi
+
+cc "${strict[@]}" bind/c/example.c "$library" -o "$made/example"
+[[ $("$made/example") == 'views of 16 x 16; 4 bytes: 252 0 0' ]] || { echo 'c: FAILED: example.c'; exit 1; }
+ran+=(example)
+
+if command -v c++ >/dev/null; then
+    c++ -std=c++11 -Wall -Wextra -Wpedantic -Werror bind/c/header.cc "$library" -o "$made/header"
+    "$made/header" || { echo 'c: FAILED: the header as C++'; exit 1; }
+    ran+=(C++)
+else
+    left+=(C++)
+fi
+
+# What the library takes from the C library: copies and fills, and nothing that allocates, prints, locks or ends the program.
+asked=$(nm -u "$library" | awk '$1 == "U" { print $2 }' | sort -u | tr '\n' ' ')
+for name in $asked; do
+    case $name in
+    memcpy | memset | memmove | memcmp | bcmp) ;;
+    *) echo "c: FAILED: the library asks for $name"; exit 1 ;;
+    esac
+done
+# It keeps nothing between calls: no symbol of data that is written.
+if nm "$library" | awk '$2 ~ /^[bBdDcC]$/ { found = 1; print } END { exit !found }'; then
+    echo 'c: FAILED: the library has data that is written'
+    exit 1
+fi
+
+echo "c: ran ${ran[*]}${left:+; not at hand: ${left[*]}}; the library asks for: ${asked% }"
+echo "$verdict"
