@@ -1,0 +1,107 @@
+/* How much stack each call uses: it runs on a stack of its own that is painted before, and the lowest byte that has changed
+ * says how far down it went. Counted from the frame of the function that makes the call, so its arguments on the stack and the
+ * return address are in the number. Each call is run once before, so that the dynamic linker has bound memcpy and memset, and
+ * then with two paints, in case the call writes one of them. Run by hand:
+ *
+ *   cc -std=c99 -O1 -Wall -Wextra -Wpedantic bind/c/stack.c oracle/build/libhaythaw.a -o stack && ./stack */
+#define _DEFAULT_SOURCE
+#include <stdio.h>
+#include <stdlib.h>
+#include <string.h>
+#include <ucontext.h>
+
+#include "calls.h"
+
+enum { STACK = 1 << 18 };
+static uint8_t stack[STACK];
+static uint8_t *deepest, *from;
+static ucontext_t back, there;
+static const Args *lent;
+static enum call chosen;
+
+/* Each in a function of its own, so that no frame has room for the others. */
+#define ALONE(name, call) \
+    static __attribute__((noinline)) void name(const Args *a) \
+    { \
+        from = __builtin_frame_address(0); \
+        call; \
+    }
+ALONE(do_new, haythaw_new(PICTURE))
+ALONE(do_from_rgba, haythaw_from_rgba(LENT(RGBA), PICTURE))
+ALONE(do_to_rgba, haythaw_to_rgba(PICTURE, a->left, a->top, a->right, a->bottom, LENT(OUT)))
+ALONE(do_main, haythaw_apply_main_view(PICTURE, LENT(RECTS), A_VIEW))
+ALONE(do_aux_v1, haythaw_apply_auxiliary_v1(PICTURE, LENT(RECTS), A_VIEW))
+ALONE(do_aux_v2, haythaw_apply_auxiliary_v2(PICTURE, LENT(RECTS), A_VIEW))
+ALONE(do_split_v1, haythaw_split_v1(PICTURE, BOTH_VIEWS))
+ALONE(do_split_v2, haythaw_split_v2(PICTURE, BOTH_VIEWS))
+ALONE(do_view, haythaw_view(A_VIEW))
+ALONE(do_luma_row, haythaw_luma_row(A_VIEW, a->row))
+ALONE(do_u_row, haythaw_u_row(A_VIEW, a->row))
+ALONE(do_v_row, haythaw_v_row(A_VIEW, a->row))
+ALONE(do_view_to_rgba, haythaw_view_to_rgba(A_VIEW, LENT(OUT)))
+ALONE(do_is_avc, haythaw_is_avc_format(LENT(DATA)))
+ALONE(do_annex_b, haythaw_avc_to_annex_b(LENT(DATA), LENT(OUT)))
+ALONE(do_allocation_size, haythaw_allocation_size(a->width, a->height))
+
+static void (*const alone[CALLS + 1])(const Args *) = {
+    do_new, do_from_rgba, do_to_rgba, do_main, do_aux_v1, do_aux_v2, do_split_v1, do_split_v2, do_view,
+    do_luma_row, do_u_row, do_v_row, do_view_to_rgba, do_is_avc, do_annex_b, do_allocation_size};
+
+static void on_its_own_stack(void)
+{
+    alone[chosen](lent);
+}
+
+static size_t depth(enum call call, const Args *a, uint8_t paint)
+{
+    chosen = call;
+    lent = a;
+    memset(stack, paint, STACK);
+    getcontext(&there);
+    there.uc_stack.ss_sp = stack;
+    there.uc_stack.ss_size = STACK;
+    there.uc_link = &back;
+    makecontext(&there, on_its_own_stack, 0);
+    swapcontext(&back, &there);
+    for (deepest = stack; deepest < from && *deepest == paint;)
+        deepest++;
+    return (size_t)(from - deepest);
+}
+
+static Args of_size(uint16_t width, uint16_t height)
+{
+    static const uint16_t rects[8] = {1, 1, 65535, 65535, 0, 0, 7, 7};
+    static uint8_t units[6] = {0, 0, 0, 2, 0x67, 0x42};
+    Args a = {0};
+    const size_t stride = (width + 15u) / 16 * 16, rows = (height + 15u) / 16 * 16, plane = stride * rows;
+    a.width = width, a.height = height, a.right = width, a.bottom = height;
+    a.view_width = (uint16_t)stride, a.view_height = (uint16_t)rows, a.luma_stride = stride, a.chroma_stride = stride / 2;
+    for (int s = Y; s < SLICES; s++) {
+        a.count[s] = s == RGBA || s == OUT ? 4 * plane : plane;
+        a.at[s] = calloc(a.count[s], 1);
+        if (a.at[s] == NULL)
+            exit(2);
+    }
+    memcpy(a.at[RECTS], rects, sizeof rects);
+    a.count[RECTS] = 8;
+    a.at[DATA] = units, a.count[DATA] = sizeof units;
+    return a;
+}
+
+int main(void)
+{
+    const Args tiny = of_size(2, 2), large = of_size(1920, 1080);
+    printf("%-20s %10s %10s\n", "call, bytes", "2x2", "1920x1080");
+    for (int call = 0; call <= CALLS; call++) {
+        const Args *const sizes[2] = {&tiny, &large};
+        size_t most[2];
+        for (int k = 0; k < 2; k++) {
+            if (call < CALLS && run((enum call)call, sizes[k]).number != 0)
+                return 1;
+            const size_t one = depth((enum call)call, sizes[k], 0xA5), two = depth((enum call)call, sizes[k], 0x3C);
+            most[k] = one > two ? one : two;
+        }
+        printf("%-20s %10zu %10zu\n", call < CALLS ? call_names[call] : "allocation_size", most[0], most[1]);
+    }
+    return 0;
+}
