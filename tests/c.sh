@@ -1,7 +1,8 @@
 #!/usr/bin/env bash
 # The C boundary: compiles bind/c/test.c against the library for this machine and runs it, plainly, with the compiler's
-# sanitizers and under valgrind, as far as these are at hand; compiles the example, and the header as C++; and looks at what the
-# library asks of the program that links it. One line for each, and the count of the plain run. Status 1 if anything is wrong.
+# sanitizers and under valgrind, as far as these are at hand; compiles and runs the example, the demo's program, and the header as
+# C++; and looks at what the library asks of the program that links it. It prints what ran, then the plain run's
+# `c: N checks, 0 wrong`. Status 1 if anything is wrong.
 set -euo pipefail
 root=$(cd "$(dirname "${BASH_SOURCE[0]}")/.." && pwd -P)
 cd "$root"
@@ -51,6 +52,12 @@ fi
 cc "${strict[@]}" bind/c/example.c "$library" -o "$made/example"
 [[ $("$made/example") == 'views of 16 x 16; 4 bytes: 252 0 0' ]] || { echo 'c: FAILED: example.c'; exit 1; }
 ran+=(example)
+
+# The demo's program ends with 0 only if both layouts show the strip as it has to be.
+cc "${strict[@]}" strip/strip.c "$library" -o "$made/strip"
+"$made/strip" "$made" >"$made/said" || { cat "$made/said"; echo 'c: FAILED: strip/strip.c'; exit 1; }
+cmp "$made/strip.png" docs/strip.png || { echo 'c: FAILED: docs/strip.png is not what the demo draws'; exit 1; }
+ran+=(strip)
 
 if command -v c++ >/dev/null; then
     c++ -std=c++11 -Wall -Wextra -Wpedantic -Werror bind/c/header.cc "$library" -o "$made/header"

@@ -10,7 +10,7 @@
 #include <string.h>
 #include <ucontext.h>
 
-#include "calls.h"
+#include "test/calls.h"
 
 enum { STACK = 1 << 18 };
 static uint8_t stack[STACK];

@@ -3,7 +3,7 @@
 #ifndef CALLS_H
 #define CALLS_H
 
-#include "haythaw.h"
+#include "../haythaw.h"
 
 enum call {
     NEW, FROM_RGBA, TO_RGBA, MAIN, AUX_V1, AUX_V2, SPLIT_V1, SPLIT_V2, VIEW, LUMA_ROW, U_ROW, V_ROW, VIEW_TO_RGBA, IS_AVC, ANNEX_B, CALLS

@@ -1,0 +1,91 @@
+/* What the parts of the test share: counting, the trap, and buffers for a picture and a view. */
+#ifndef CHECK_H
+#define CHECK_H
+
+#include "calls.h"
+#include "lend.h"
+
+static unsigned long checks, wrong;
+static const char *trying = "nothing yet";
+
+static void check(bool holds, const char *call, const char *what)
+{
+    checks++;
+    if (!holds && wrong++ < 40)
+        printf("wrong: %s, %s, buffers %s\n", call, what, place_names[place]);
+}
+
+/* Something touched memory that it was not lent. */
+static void trapped(int which)
+{
+    static const char said[] = "c: a trap in the call ";
+    (void)which;
+    if (write(1, said, sizeof said - 1) < 0 || write(1, trying, strlen(trying)) < 0 || write(1, "\n", 1) < 0)
+        _exit(3);
+    _exit(1);
+}
+
+static Result tried(enum call call, const Args *a)
+{
+    trying = call_names[call];
+    lent_seen();
+    return run(call, a);
+}
+
+/* The buffers of one case go back, and no byte around them has changed. */
+static void over(enum call call)
+{
+    check(lent_back(), call_names[call], "a byte around a buffer has changed");
+}
+
+static bool is_refusal(const Result *r, uint32_t number)
+{
+    return r->number == number && !r->present && !r->yes && r->count == 0 && r->start == 0 && r->length == 0 &&
+           r->width == 0 && r->height == 0 && r->luma_stride == 0 && r->chroma_stride == 0;
+}
+
+static bool all_are(const uint8_t *bytes, size_t count, uint8_t value)
+{
+    for (size_t k = 0; k < count; k++)
+        if (bytes[k] != value)
+            return false;
+    return true;
+}
+
+static void picture(Args *a, uint16_t width, uint16_t height, size_t plane)
+{
+    a->width = width;
+    a->height = height;
+    for (int s = Y; s <= V; s++) {
+        a->at[s] = lend(plane);
+        a->count[s] = plane;
+    }
+}
+
+static void lend_as(Args *a, enum slice slice, size_t count, const uint8_t *bytes)
+{
+    a->at[slice] = lend(count);
+    a->count[slice] = count;
+    if (bytes != NULL && count > 0)
+        memcpy(a->at[slice], bytes, count);
+}
+
+/* A view whose every sample differs from its neighbours and from what a picture held. */
+static void view(Args *a, uint16_t width, uint16_t height, size_t luma_stride, size_t chroma_stride)
+{
+    const size_t half = ((size_t)height + 1) / 2;
+    a->view_width = width;
+    a->view_height = height;
+    a->luma_stride = luma_stride;
+    a->chroma_stride = chroma_stride;
+    lend_as(a, VIEW_Y, luma_stride * height, NULL);
+    lend_as(a, VIEW_U, chroma_stride * half, NULL);
+    lend_as(a, VIEW_V, chroma_stride * half, NULL);
+}
+
+static bool within(const size_t area[4], size_t row, size_t col)
+{
+    return area[0] <= col && col < area[2] && area[1] <= row && row < area[3];
+}
+
+#endif

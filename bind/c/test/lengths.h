@@ -1,0 +1,122 @@
+/* Every call with each buffer exactly full, one short, one longer, empty and null, alone and in pairs. */
+#ifndef LENGTHS_H
+#define LENGTHS_H
+
+#include "check.h"
+
+/* What a call needs in the case below, in its order of refusals: the exact count of each slice, and its number one short and empty.
+ *
+ * The picture is 17x3: stride 32, rows 16, planes of 512 bytes, 17 x 3 x 4 = 204 bytes of RGBA, chroma of its views 16 x 8. The
+ * rectangle of to_rgba is (1, 1, 17, 3): 16 x 2 x 4 = 128. The view is 5x3 with strides 7 and 4: 7 x 3, 4 x 2, RGBA 5 x 3 x 4. */
+typedef struct {
+    enum slice slice;
+    size_t exact;
+    uint32_t shorter, empty;
+} Need;
+
+#define PLANES {Y, 512, 1, 1}, {U, 512, 1, 1}, {V, 512, 1, 1}
+#define THE_VIEW {VIEW_Y, 21, 4, 4}, {VIEW_U, 8, 4, 4}, {VIEW_V, 8, 4, 4}
+#define THE_VIEWS {MAIN_Y, 512, 6, 6}, {MAIN_U, 128, 6, 6}, {MAIN_V, 128, 6, 6}, {AUX_Y, 512, 6, 6}, {AUX_U, 128, 6, 6}, {AUX_V, 128, 6, 6}
+
+static const struct { size_t used; Need needs[9]; } needs[CALLS] = {
+    [NEW] = {3, {PLANES}},
+    [FROM_RGBA] = {4, {{RGBA, 204, 2, 2}, PLANES}},
+    [TO_RGBA] = {4, {PLANES, {OUT, 128, 6, 6}}},
+    [MAIN] = {7, {PLANES, {RECTS, 4, 7, 0}, THE_VIEW}},
+    [AUX_V1] = {7, {PLANES, {RECTS, 4, 7, 0}, THE_VIEW}},
+    [AUX_V2] = {7, {PLANES, {RECTS, 4, 7, 0}, THE_VIEW}},
+    [SPLIT_V1] = {9, {PLANES, THE_VIEWS}},
+    [SPLIT_V2] = {9, {PLANES, THE_VIEWS}},
+    [VIEW] = {3, {THE_VIEW}},
+    [LUMA_ROW] = {3, {THE_VIEW}},
+    [U_ROW] = {3, {THE_VIEW}},
+    [V_ROW] = {3, {THE_VIEW}},
+    [VIEW_TO_RGBA] = {4, {THE_VIEW, {OUT, 60, 6, 6}}},
+    [ANNEX_B] = {1, {{OUT, 6, 6, 6}}}};
+
+enum length { EXACT, SHORTER, LONGER, EMPTY, NO_POINTER, LENGTHS };
+
+static size_t elements(const Need *need, enum length length)
+{
+    switch (length) {
+    case SHORTER: return need->exact - 1;
+    case LONGER: return need->slice == RECTS ? need->exact + 4 : need->exact + 1;
+    case EMPTY: case NO_POINTER: return 0;
+    default: return need->exact;
+    }
+}
+
+static uint32_t number_of(const Need *need, enum length length)
+{
+    return length == SHORTER ? need->shorter : length == EMPTY || length == NO_POINTER ? need->empty : 0;
+}
+
+/* The case, each slice with the length that `lengths` says. */
+static Args the_case(enum call call, const enum length *lengths)
+{
+    static const uint16_t rects[8] = {1, 1, 4, 3, 2, 0, 17, 2};
+    static const uint8_t units[6] = {0, 0, 0, 2, 0x67, 0x42};
+    Args a = {0};
+    a.width = 17, a.height = 3, a.left = 1, a.top = 1, a.right = 17, a.bottom = 3, a.row = 1;
+    a.view_width = 5, a.view_height = 3, a.luma_stride = 7, a.chroma_stride = 4;
+    for (size_t k = 0; k < needs[call].used; k++) {
+        const Need *need = &needs[call].needs[k];
+        const size_t count = elements(need, lengths[k]);
+        a.count[need->slice] = count;
+        a.at[need->slice] = lengths[k] == NO_POINTER ? NULL : lend(need->slice == RECTS ? 2 * count : count);
+        if (need->slice == RECTS && count > 0)
+            memcpy(a.at[RECTS], rects, 2 * count);
+    }
+    if (call == ANNEX_B)
+        lend_as(&a, DATA, 6, units);
+    return a;
+}
+
+/* Runs the case and compares with the first number, in the call's order, of a slice that is not long enough. */
+static void with_lengths(enum call call, const enum length *lengths)
+{
+    uint32_t number = 0;
+    for (size_t k = 0; k < needs[call].used && number == 0; k++)
+        number = number_of(&needs[call].needs[k], lengths[k]);
+    Args a = the_case(call, lengths);
+    Result r = tried(call, &a);
+    if (number != 0) {
+        check(is_refusal(&r, number), call_names[call], "a refusal's fields");
+        check(lent_kept(), call_names[call], "a refusal changed a byte");
+    } else {
+        static const size_t counts[CALLS] = {[TO_RGBA] = 128, [VIEW_TO_RGBA] = 60, [ANNEX_B] = 6};
+        check(r.number == 0 && r.count == counts[call], call_names[call], "number and count");
+        for (size_t k = 0; k < needs[call].used; k++)
+            check(kept_from(a.at[needs[call].needs[k].slice], needs[call].needs[k].slice == RECTS ? 0 : needs[call].needs[k].exact),
+                  call_names[call], "a byte past what is written");
+    }
+    over(call);
+}
+
+/* Every slice with every length, every pair of slices with every two, all slices empty, all null. */
+static void lengths_of(enum call call)
+{
+    enum length lengths[9] = {EXACT};
+    const size_t used = needs[call].used;
+    with_lengths(call, lengths);
+    for (size_t i = 0; i < used; i++)
+        for (int one = SHORTER; one < LENGTHS; one++) {
+            lengths[i] = (enum length)one;
+            with_lengths(call, lengths);
+            for (size_t j = i + 1; j < used; j++) {
+                for (int two = SHORTER; two < LENGTHS; two++) {
+                    lengths[j] = (enum length)two;
+                    with_lengths(call, lengths);
+                }
+                lengths[j] = EXACT;
+            }
+            lengths[i] = EXACT;
+        }
+    for (int all = EMPTY; all <= NO_POINTER; all++) {
+        for (size_t i = 0; i < used; i++)
+            lengths[i] = (enum length)all;
+        with_lengths(call, lengths);
+    }
+}
+
+#endif

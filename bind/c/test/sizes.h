@@ -1,0 +1,181 @@
+/* Every call with sizes, strides, lists and rectangles from nothing to the largest, against the table of numbers. */
+#ifndef SIZES_H
+#define SIZES_H
+
+#include "check.h"
+
+/* The number of a call by the table of numbers, said again. No product is made that could pass 64 bits. */
+static bool longer_than(size_t count, size_t stride, size_t rows)
+{
+    return rows > 0 && stride > count / rows;
+}
+
+static size_t up_to(size_t n, size_t unit)
+{
+    return (n + unit - 1) / unit * unit;
+}
+
+static size_t clipped(const Args *a)
+{
+    const size_t right = a->right < a->width ? a->right : a->width, bottom = a->bottom < a->height ? a->bottom : a->height;
+    return a->left < right && a->top < bottom ? 4 * (right - a->left) * (bottom - a->top) : 0;
+}
+
+static bool plane_short(const Args *a)
+{
+    const size_t plane = up_to(a->width, 16) * up_to(a->height, 16);
+    return a->count[Y] < plane || a->count[U] < plane || a->count[V] < plane;
+}
+
+static uint32_t view_number(const Args *a)
+{
+    const size_t half_width = (a->view_width + 1u) / 2, half_height = (a->view_height + 1u) / 2;
+    if (a->luma_stride < a->view_width || a->chroma_stride < half_width)
+        return 3;
+    return longer_than(a->count[VIEW_Y], a->luma_stride, a->view_height) || longer_than(a->count[VIEW_U], a->chroma_stride, half_height) ||
+                   longer_than(a->count[VIEW_V], a->chroma_stride, half_height)
+               ? 4 : 0;
+}
+
+static uint32_t split_number(const Args *a)
+{
+    const size_t stride = up_to(a->width, 16), rows = up_to(a->height, 16);
+    if (plane_short(a) || stride > 65535 || rows > 65535)
+        return plane_short(a) ? 1 : 5;
+    for (int s = MAIN_Y; s <= AUX_V; s++)
+        if (a->count[s] < (s == MAIN_Y || s == AUX_Y ? stride * rows : stride / 2 * (rows / 2)))
+            return 6;
+    return 0;
+}
+
+static uint32_t the_number(enum call call, const Args *a)
+{
+    switch (call) {
+    case NEW: return plane_short(a) ? 1 : 0;
+    case FROM_RGBA: return a->count[RGBA] < (size_t)4 * a->width * a->height ? 2 : plane_short(a) ? 1 : 0;
+    case TO_RGBA: return plane_short(a) ? 1 : a->count[OUT] < clipped(a) ? 6 : 0;
+    case MAIN: case AUX_V1: case AUX_V2: return plane_short(a) ? 1 : a->count[RECTS] % 4 != 0 ? 7 : view_number(a);
+    case SPLIT_V1: case SPLIT_V2: return split_number(a);
+    case VIEW_TO_RGBA:
+        return view_number(a) != 0 ? view_number(a) : a->count[OUT] < (size_t)4 * a->view_width * a->view_height ? 6 : 0;
+    case VIEW: case LUMA_ROW: case U_ROW: case V_ROW: return view_number(a);
+    default: return 0;
+    }
+}
+
+static void by_table(enum call call, const Args *a, const char *what)
+{
+    const uint32_t number = the_number(call, a);
+    Result r = tried(call, a);
+    if (number != 0)
+        check(is_refusal(&r, number) && lent_kept(), call_names[call], what);
+    else
+        check(r.number == 0 && r.count == (call == TO_RGBA ? clipped(a) : call == VIEW_TO_RGBA ? (size_t)4 * a->view_width * a->view_height : 0),
+              call_names[call], what);
+}
+
+/* Pictures of every size from nothing to the largest, with planes of 512 bytes and views of as many, and with none. */
+static void picture_sizes(void)
+{
+    static const uint16_t sides[] = {0, 1, 2, 15, 16, 17, 32, 255, 65519, 65520, 65521, 65535};
+    enum { SIDES = sizeof sides / sizeof *sides };
+    for (int none = 0; none < 2; none++) {
+        Args a = {0};
+        a.view_width = 5, a.view_height = 3, a.luma_stride = 7, a.chroma_stride = 4, a.right = 65535, a.bottom = 65535;
+        for (int s = Y; s <= AUX_V && !none; s++)
+            lend_as(&a, (enum slice)s, 512, NULL);
+        a.count[RECTS] /= 2;
+        for (size_t i = 0; i < SIDES; i++)
+            for (size_t j = 0; j < SIDES; j++)
+                for (int call = NEW; call <= SPLIT_V2; call++) {
+                    a.width = sides[i], a.height = sides[j];
+                    by_table((enum call)call, &a, "a picture's size");
+                }
+        over(NEW);
+    }
+}
+
+/* Views of every size with every stride; two of the strides make products that are 0 and 2 when cut to 64 bits. */
+static void view_sizes(void)
+{
+    static const uint16_t sides[] = {0, 1, 2, 3, 5, 16, 65535};
+    static const size_t strides[] = {0, 1, 3, 7, 65535, SIZE_MAX / 2 + 1, 6148914691236517206u, SIZE_MAX - 1, SIZE_MAX};
+    enum { SIDES = sizeof sides / sizeof *sides, STRIDES = sizeof strides / sizeof *strides };
+    static const uint16_t rects[8] = {0, 0, 65535, 65535, 3, 1, 5, 2};
+    static const enum call calls[] = {VIEW, LUMA_ROW, U_ROW, V_ROW, VIEW_TO_RGBA, MAIN, AUX_V1, AUX_V2};
+    Args a = {0};
+    picture(&a, 17, 3, 512);
+    for (int s = VIEW_Y; s <= OUT; s++)
+        lend_as(&a, (enum slice)s, s == OUT ? 1024 : 64, NULL);
+    a.at[RECTS] = lend(16);
+    a.row = 1;
+    memcpy(a.at[RECTS], rects, 16);
+    for (size_t i = 0; i < SIDES * SIDES; i++)
+        for (size_t j = 0; j < STRIDES * STRIDES; j++)
+            for (size_t c = 0; c < sizeof calls / sizeof *calls; c++) {
+                a.view_width = sides[i / SIDES], a.view_height = sides[i % SIDES];
+                a.luma_stride = strides[j / STRIDES], a.chroma_stride = strides[j % STRIDES];
+                a.count[RECTS] = (i + j) % 7 == 0 ? 5 : 8;
+                by_table(calls[c], &a, "a view's size");
+            }
+    over(VIEW);
+}
+
+/* Lists of 0 to 9 numbers, exactly lent. */
+static void list_lengths(void)
+{
+    for (size_t count = 0; count < 10; count++)
+        for (int call = MAIN; call <= AUX_V2; call++) {
+            Args a = {0};
+            picture(&a, 17, 3, 512);
+            view(&a, 5, 3, 7, 4);
+            a.at[RECTS] = lend(2 * count);
+            a.count[RECTS] = count;
+            by_table((enum call)call, &a, "a list's length");
+            over((enum call)call);
+        }
+}
+
+/* Rectangles that are empty, reversed, off the picture, as large as can be, on a picture and a view that are lent exactly. */
+static void rectangles(void)
+{
+    static const uint16_t edges[] = {0, 1, 2, 4, 5, 17, 65535};
+    enum { EDGES = sizeof edges / sizeof *edges };
+    static const enum call calls[] = {MAIN, AUX_V1, AUX_V2, TO_RGBA};
+    Args a = {0};
+    picture(&a, 17, 3, 512);
+    view(&a, 5, 3, 7, 4);
+    lend_as(&a, OUT, 204, NULL);
+    uint16_t *rect = a.at[RECTS] = lend(8);
+    a.count[RECTS] = 4;
+    for (size_t k = 0; k < EDGES * EDGES * EDGES * EDGES; k++)
+        for (size_t c = 0; c < sizeof calls / sizeof *calls; c++) {
+            a.left = rect[0] = edges[k % EDGES], a.top = rect[1] = edges[k / EDGES % EDGES];
+            a.right = rect[2] = edges[k / EDGES / EDGES % EDGES], a.bottom = rect[3] = edges[k / EDGES / EDGES / EDGES];
+            by_table(calls[c], &a, "a rectangle");
+        }
+    over(MAIN);
+}
+
+/* The largest sides with planes that are long enough: 65536 x 16 bytes. A fresh picture is black. */
+static void longest_sides(void)
+{
+    static const uint16_t sides[2][2] = {{65535, 1}, {1, 65535}};
+    static const uint8_t black[4] = {0, 0, 0, 255};
+    for (int turned = 0; turned < 2; turned++) {
+        Args a = {0};
+        picture(&a, sides[turned][0], sides[turned][1], (size_t)65536 * 16);
+        by_table(NEW, &a, "the longest side");
+        lend_as(&a, OUT, (size_t)65535 * 4, NULL);
+        a.right = 65535, a.bottom = 65535;
+        by_table(TO_RGBA, &a, "the longest side");
+        check(memcmp((uint8_t *)a.at[OUT] + 65534 * 4, black, 4) == 0, "to_rgba", "the last pixel of the longest side");
+        a.at[RGBA] = a.at[OUT], a.count[RGBA] = a.count[OUT];
+        by_table(FROM_RGBA, &a, "the longest side");
+        by_table(SPLIT_V1, &a, "the longest side");
+        by_table(SPLIT_V2, &a, "the longest side");
+        over(NEW);
+    }
+}
+
+#endif
