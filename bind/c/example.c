@@ -11,7 +11,8 @@ int main(void)
 
     if (haythaw_from_rgba(rgba, 8, 2, 1, y, 256, u, 256, v, 256) != HAYTHAW_DONE)
         return 1;
-    haythaw_views views = haythaw_split_v2(2, 1, y, 256, u, 256, v, 256, main_y, 256, main_u, 64, main_v, 64, aux_y, 256, aux_u, 64, aux_v, 64);
+    haythaw_views views = haythaw_split_v2(2, 1, y, 256, u, 256, v, 256, main_y, 256, main_u, 64, main_v, 64,
+                                           aux_y, 256, aux_u, 64, aux_v, 64);
     haythaw_answer answer = haythaw_to_rgba(2, 1, y, 256, u, 256, v, 256, 0, 0, 1, 1, red, sizeof red);
     printf("views of %u x %u; %zu bytes: %u %u %u\n", views.width, views.height, answer.count, red[0], red[1], red[2]);
     return answer.number != HAYTHAW_DONE;

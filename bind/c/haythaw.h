@@ -5,25 +5,25 @@
  *   - A length is true: the buffer has at least as many elements as the count beside its pointer says.
  *     Counts are in elements: bytes, or in `rects` numbers of 16 bits.
  *   - A buffer that is written overlaps no other buffer of the same call. Buffers that are only read may overlap.
- *   - A pointer with count 0 may be null.
  *
- * Nothing else is owed. Every call is proved total: for any sizes, strides, lists, lengths and bytes it ends, answers as said
- * below, and touches nothing outside the lent buffers. It checks what it is handed by itself, and refuses by number. A refusal
- * changes no byte of any buffer. The library allocates nothing, keeps nothing between calls and starts no thread, so calls
- * on different buffers may run at the same time.
+ * A pointer with count 0 may be null. Nothing else is owed. Every call is proved total: for any sizes, strides, lists, lengths
+ * and bytes it ends, answers as said below, and touches nothing outside the lent buffers. It checks what it is handed by itself,
+ * and refuses by number. A refusal changes no byte of any buffer. The library allocates nothing, keeps nothing between calls
+ * and starts no thread, so calls on different buffers may run at the same time.
  *
  * Words
  *
  *   picture   width x height pixels in three planes y, u, v of `stride` x `rows` bytes each, where stride is the width and rows
  *             the height, both rounded up to 16. A call works these out itself. Bytes of a lent plane past stride x rows
- *             are never read and never change.
+ *             reach no answer and never change.
  *   view      a 4:2:0 picture: view_width x view_height luma samples, row r from r x luma_stride on, and in view_u and
  *             view_v half of both, rounded up, row r from r x chroma_stride on. Bytes between the width and the stride, and after
  *             the last row, reach no answer.
  *   list      `rects`: rectangles, four numbers each: left, top, right, bottom. Right and bottom are the first column and row
  *             outside. They may be empty, reversed, off the picture, repeated and in any order.
  *   widened   a rectangle with left and top rounded down to even, and right (at most the width) and bottom (at most the
- *             height) rounded up to even: the 2x2 blocks that it touches.
+ *             height) rounded up to even: the 2x2 blocks that it touches. An empty rectangle may widen to something:
+ *             (5, 0, 5, 4) takes chroma columns 4 and 5.
  *   RGBA      four bytes a pixel, row after row with nothing between.
  *
  * Link with libhaythaw.a, which oracle/library.sh makes for this machine. It is for machines whose size_t has 64 bits.
@@ -101,7 +101,8 @@ uint32_t haythaw_from_rgba(const uint8_t *rgba, size_t rgba_count, uint16_t widt
                            uint8_t *y, size_t y_count, uint8_t *u, size_t u_count, uint8_t *v, size_t v_count);
 
 /* The rectangle's pixels as RGBA, alpha 255. The rectangle is clipped to the picture; an empty one writes nothing, with count 0
- * and number 0. At even rows and columns U and V go through the reverse filter on their way; the planes keep their averages.
+ * and number 0. At pixels of even row and even column U and V go through the reverse filter on their way; the planes keep their
+ * averages.
  * Answers 0, 1 or 6, in this order of refusals; the count is 4 x the clipped pixels. Writes the first count bytes of out; bytes
  * after them stay. */
 haythaw_answer haythaw_to_rgba(uint16_t width, uint16_t height, const uint8_t *y, size_t y_count,
@@ -110,11 +111,12 @@ haythaw_answer haythaw_to_rgba(uint16_t width, uint16_t height, const uint8_t *y
 
 /* ---- Views into a picture, within a list of rectangles ----
  *
- * All three answer 0, 1, 7, 3 or 4, in this order of refusals, and take what a view has: samples that it lacks stay as they
- * were. The order of the list has no effect. An empty list changes nothing. */
+ * All three answer 0, 1, 7, 3 or 4, in this order of refusals, and take what a view has: a sample that it lacks leaves the
+ * picture's as it was, and U and V of a place are taken together or not at all. The order of the list has no effect. An empty
+ * list changes nothing. */
 
-/* The main view: Y within the rectangles, U and V within the widened rectangles, each chroma sample at all four places of its
- * block. Every other byte of y, u and v stays. */
+/* The main view: Y within the rectangles, in rows of the picture and columns below the widened right edge; U and V within the
+ * widened rectangles, each chroma sample at all four places of its block. Every other byte of y, u and v stays. */
 uint32_t haythaw_apply_main_view(uint16_t width, uint16_t height, uint8_t *y, size_t y_count, uint8_t *u, size_t u_count,
                                  uint8_t *v, size_t v_count, const uint16_t *rects, size_t rects_count,
                                  uint16_t view_width, uint16_t view_height, size_t luma_stride, size_t chroma_stride,
