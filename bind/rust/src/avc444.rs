@@ -1,0 +1,243 @@
+//! AVC444 and AVC444v2: two 4:2:0 views become one 4:4:4 picture, and a picture becomes its two views.
+//!
+//! The main view carries luma and a quarter of the chroma, the auxiliary view the rest of the chroma (MS-RDPEGFX 2.2.4.5, 3.3.8.3.2
+//! and 3.3.8.3.3). A picture keeps what earlier views left in it, so that an update of luma alone or of chroma alone combines with it.
+
+use core::fmt;
+
+use crate::decode::{DecoderError, DecoderResult, Yuv420Frame};
+use crate::geometry::ExclusiveRectangle;
+use crate::library::{self, Size};
+
+/// Where the auxiliary view keeps the chroma that the main view leaves out.
+#[derive(Debug, Clone, Copy, PartialEq, Eq)]
+pub enum Avc444Layout {
+    /// `RFX_AVC444_BITMAP_STREAM`: odd chroma rows, interleaved in each row of macroblocks (MS-RDPEGFX 3.3.8.3.2).
+    V1,
+    /// `RFX_AVC444V2_BITMAP_STREAM`: odd chroma columns side by side (MS-RDPEGFX 3.3.8.3.3).
+    V2,
+}
+
+/// A YUV 4:4:4 picture in the colours of MS-RDPEGFX, its planes padded to whole macroblocks.
+///
+/// The chroma sample at an even row and an even column holds the average of its 2x2 block, as the main view has it. The reverse
+/// filter runs when the picture is converted to RGBA, and the planes keep the average.
+///
+/// ```
+/// use haythaw::avc444::{Avc444Layout, Yuv444Frame};
+/// use haythaw::geometry::ExclusiveRectangle;
+///
+/// // A grey strip that has one column of magenta, and the two views of it.
+/// let mut rgba = [128, 128, 128, 255].repeat(8 * 2);
+/// for row in 0..2 {
+///     rgba[(row * 8 + 3) * 4..][..4].copy_from_slice(&[255, 0, 255, 255]);
+/// }
+/// let strip = Yuv444Frame::from_rgba(&rgba, 8, 2).expect("8 x 2 pixels");
+/// let (main, auxiliary) = strip.split(Avc444Layout::V1)?;
+///
+/// // An update that covers this column alone, at an odd left edge: its chroma comes too.
+/// let tick = ExclusiveRectangle { left: 3, top: 0, right: 4, bottom: 2 };
+/// let mut picture = Yuv444Frame::new(8, 2);
+/// picture.apply_main_view(&main, &[tick]);
+/// picture.apply_auxiliary_view(Avc444Layout::V1, &auxiliary, &[tick]);
+/// assert_eq!(picture.to_rgba(&tick), strip.to_rgba(&tick));
+/// # Ok::<(), haythaw::decode::DecoderError>(())
+/// ```
+#[derive(Clone)]
+pub struct Yuv444Frame {
+    width: u16,
+    height: u16,
+    // INVARIANT: each plane has a third of `allocation_size(width, height)` bytes, so that the library never finds one too short.
+    y: Vec<u8>,
+    u: Vec<u8>,
+    v: Vec<u8>,
+}
+
+impl Yuv444Frame {
+    /// A black picture.
+    ///
+    /// ```
+    /// use haythaw::avc444::Yuv444Frame;
+    /// use haythaw::geometry::ExclusiveRectangle;
+    ///
+    /// let picture = Yuv444Frame::new(2, 1);
+    /// let whole = ExclusiveRectangle { left: 0, top: 0, right: 2, bottom: 1 };
+    /// assert_eq!(picture.to_rgba(&whole), [0, 0, 0, 255, 0, 0, 0, 255]);
+    /// ```
+    pub fn new(width: u16, height: u16) -> Self {
+        let mut picture = Self::blank(width, height);
+        let (size, planes) = picture.lent_mut();
+        library::done("new", library::new(size, planes));
+        picture
+    }
+
+    /// The picture of tightly packed RGBA pixels, by the forward transform of MS-RDPEGFX 3.3.8.3.1.
+    ///
+    /// Alpha is ignored, and so is what follows the last pixel. `None` when `rgba` is shorter than `width * height * 4` bytes.
+    ///
+    /// ```
+    /// use haythaw::avc444::Yuv444Frame;
+    ///
+    /// assert!(Yuv444Frame::from_rgba(&[0; 24], 3, 2).is_some());
+    /// assert!(Yuv444Frame::from_rgba(&[0; 23], 3, 2).is_none());
+    /// ```
+    pub fn from_rgba(rgba: &[u8], width: u16, height: u16) -> Option<Self> {
+        // Pixels that are too few (2) are refused before planes that are too short (1). So the library is asked over no planes first,
+        // and a picture that there will not be is never allocated.
+        if library::from_rgba(rgba, Size { width, height }, [&mut [], &mut [], &mut []]) == 2 {
+            return None;
+        }
+        let mut picture = Self::blank(width, height);
+        let (size, planes) = picture.lent_mut();
+        library::done("from_rgba", library::from_rgba(rgba, size, planes));
+        Some(picture)
+    }
+
+    /// Bytes that [`Self::new`] allocates for a picture of this size.
+    ///
+    /// ```
+    /// use haythaw::avc444::Yuv444Frame;
+    ///
+    /// assert_eq!(Yuv444Frame::allocation_size(17, 1), 3 * 32 * 16);
+    /// assert_eq!(Yuv444Frame::allocation_size(17, 1), Yuv444Frame::new(17, 1).allocated_bytes());
+    /// ```
+    pub fn allocation_size(width: u16, height: u16) -> usize {
+        library::allocation_size(Size { width, height })
+    }
+
+    /// Bytes that this picture holds.
+    pub fn allocated_bytes(&self) -> usize {
+        self.y.len() + self.u.len() + self.v.len()
+    }
+
+    /// Width in pixels.
+    pub fn width(&self) -> u16 {
+        self.width
+    }
+
+    /// Height in pixels.
+    pub fn height(&self) -> u16 {
+        self.height
+    }
+
+    /// Takes luma and a quarter of the chroma from a main view, within `rects`.
+    ///
+    /// Luma is taken within the rectangles only, chroma for every 2x2 block that they touch, since a block shares its sample. There
+    /// the picture is the view's 4:2:0 picture until an auxiliary view comes.
+    ///
+    /// ```
+    /// use haythaw::avc444::Yuv444Frame;
+    /// use haythaw::decode::Yuv420Frame;
+    /// use haythaw::geometry::ExclusiveRectangle;
+    ///
+    /// let red = Yuv420Frame::new(16, 16, vec![53; 256], 16, vec![99; 64], vec![255; 64], 8)?;
+    /// let mut picture = Yuv444Frame::new(5, 5);
+    /// let pixel = ExclusiveRectangle { left: 3, top: 0, right: 4, bottom: 1 };
+    /// picture.apply_main_view(&red, &[pixel]);
+    /// assert_eq!(picture.to_rgba(&pixel), [252, 0, 0, 255]);
+    /// # Ok::<(), haythaw::decode::DecoderError>(())
+    /// ```
+    pub fn apply_main_view(&mut self, view: &Yuv420Frame, rects: &[ExclusiveRectangle]) {
+        let (size, planes) = self.lent_mut();
+        let number = library::apply_main_view(size, planes, library::numbers_of(rects), view.lent());
+        library::done("apply_main_view", number);
+    }
+
+    /// Takes the chroma that the main view leaves out from an auxiliary view, for every 2x2 block that `rects` touch.
+    ///
+    /// Luma and the main view's chroma stay as they are. See [`Yuv444Frame`] for an example.
+    pub fn apply_auxiliary_view(&mut self, layout: Avc444Layout, view: &Yuv420Frame, rects: &[ExclusiveRectangle]) {
+        let apply = match layout {
+            Avc444Layout::V1 => library::apply_auxiliary_v1,
+            Avc444Layout::V2 => library::apply_auxiliary_v2,
+        };
+        let (size, planes) = self.lent_mut();
+        library::done("apply_auxiliary_view", apply(size, planes, library::numbers_of(rects), view.lent()));
+    }
+
+    /// The pixels of `rect`, clipped to the picture, as tightly packed RGBA: the reverse transform of MS-RDPEGFX 3.3.8.3.1 after the
+    /// reverse chroma filter of 3.3.8.3.2.
+    ///
+    /// ```
+    /// use haythaw::avc444::Yuv444Frame;
+    /// use haythaw::geometry::ExclusiveRectangle;
+    ///
+    /// let picture = Yuv444Frame::new(4, 4);
+    /// let corner = ExclusiveRectangle { left: 3, top: 2, right: 9, bottom: 9 };
+    /// assert_eq!(picture.to_rgba(&corner).len(), 2 * 4);
+    /// let off = ExclusiveRectangle { left: 4, top: 0, right: 9, bottom: 9 };
+    /// assert!(picture.to_rgba(&off).is_empty());
+    /// ```
+    pub fn to_rgba(&self, rect: &ExclusiveRectangle) -> Vec<u8> {
+        let across = rect.right.min(self.width).saturating_sub(rect.left);
+        let down = rect.bottom.min(self.height).saturating_sub(rect.top);
+        let mut rgba = vec![0; usize::from(across) * usize::from(down) * 4];
+        let (size, planes) = self.lent();
+        let answer = library::to_rgba(size, planes, [rect.left, rect.top, rect.right, rect.bottom], &mut rgba);
+        library::done("to_rgba", answer.number);
+        rgba.truncate(answer.count);
+        rgba
+    }
+
+    /// Splits the picture into its main view and its auxiliary view, both as large as the padded planes.
+    ///
+    /// # Errors
+    ///
+    /// When the padded width or height is above 65,535: that is, when a side is above 65,520.
+    ///
+    /// ```
+    /// use haythaw::avc444::{Avc444Layout, Yuv444Frame};
+    ///
+    /// let (main, auxiliary) = Yuv444Frame::new(20, 1).split(Avc444Layout::V2)?;
+    /// assert_eq!((main.width(), main.height()), (32, 16));
+    /// assert_eq!((auxiliary.width(), auxiliary.height()), (32, 16));
+    /// assert!(Yuv444Frame::new(65_521, 0).split(Avc444Layout::V2).is_err());
+    /// # Ok::<(), haythaw::decode::DecoderError>(())
+    /// ```
+    pub fn split(&self, layout: Avc444Layout) -> DecoderResult<(Yuv420Frame, Yuv420Frame)> {
+        let split = match layout {
+            Avc444Layout::V1 => library::split_v1,
+            Avc444Layout::V2 => library::split_v2,
+        };
+        let (mut main, mut auxiliary) = (self.view_planes(), self.view_planes());
+        let (size, planes) = self.lent();
+        let views =
+            split(size, planes, main.each_mut().map(Vec::as_mut_slice), auxiliary.each_mut().map(Vec::as_mut_slice));
+        if views.number == 5 {
+            return Err(DecoderError::msg("padded AVC444 picture exceeds 65535 pixels"));
+        }
+        library::done("split", views.number);
+        let wrap = |[y, u, v]: [Vec<u8>; 3]| {
+            Yuv420Frame::new(views.width, views.height, y, views.luma_stride, u, v, views.chroma_stride)
+        };
+        Ok((wrap(main)?, wrap(auxiliary)?))
+    }
+
+    /// Planes of this size, for the library to write.
+    fn blank(width: u16, height: u16) -> Self {
+        let plane = Self::allocation_size(width, height) / 3;
+        Self { width, height, y: vec![0; plane], u: vec![0; plane], v: vec![0; plane] }
+    }
+
+    /// Planes for a view of this picture, for the library to write: luma as large as Y, and chroma with half as many columns and rows.
+    fn view_planes(&self) -> [Vec<u8>; 3] {
+        let luma = self.y.len();
+        [vec![0; luma], vec![0; luma / 4], vec![0; luma / 4]]
+    }
+
+    /// The picture as the library reads it.
+    fn lent(&self) -> (Size, [&[u8]; 3]) {
+        (Size { width: self.width, height: self.height }, [&self.y, &self.u, &self.v])
+    }
+
+    /// The picture as the library writes it.
+    fn lent_mut(&mut self) -> (Size, [&mut [u8]; 3]) {
+        (Size { width: self.width, height: self.height }, [&mut self.y, &mut self.u, &mut self.v])
+    }
+}
+
+impl fmt::Debug for Yuv444Frame {
+    fn fmt(&self, f: &mut fmt::Formatter<'_>) -> fmt::Result {
+        f.debug_struct("Yuv444Frame").field("width", &self.width).field("height", &self.height).finish_non_exhaustive()
+    }
+}

@@ -1,0 +1,251 @@
+//! Decoded pictures, and why something could not be decoded.
+
+use core::fmt;
+
+use crate::library::{self, Row, View};
+
+/// A picture as RGBA, four bytes a pixel, row by row from the top.
+///
+/// ```
+/// use haythaw::decode::DecodedFrame;
+///
+/// let frame = DecodedFrame::new(vec![252, 0, 0, 255], 1, 1);
+/// assert_eq!((frame.width(), frame.height()), (1, 1));
+/// assert_eq!(frame.into_data(), [252, 0, 0, 255]);
+/// ```
+#[derive(Clone)]
+#[non_exhaustive]
+pub struct DecodedFrame {
+    data: Vec<u8>,
+    width: u32,
+    height: u32,
+}
+
+impl DecodedFrame {
+    /// Wraps `width * height` pixels.
+    ///
+    /// # Panics
+    ///
+    /// With debug assertions on, unless `data` is exactly `width * height * 4` bytes long.
+    pub fn new(data: Vec<u8>, width: u32, height: u32) -> Self {
+        debug_assert_eq!(
+            data.len() as u64,
+            u64::from(width).saturating_mul(u64::from(height)).saturating_mul(4),
+            "DecodedFrame buffer must be RGBA8888 (width * height * 4 bytes)",
+        );
+        Self { data, width, height }
+    }
+
+    /// The pixels.
+    pub fn data(&self) -> &[u8] {
+        &self.data
+    }
+
+    /// Width in pixels.
+    pub fn width(&self) -> u32 {
+        self.width
+    }
+
+    /// Height in pixels.
+    pub fn height(&self) -> u32 {
+        self.height
+    }
+
+    /// The pixels, without the frame around them.
+    pub fn into_data(self) -> Vec<u8> {
+        self.data
+    }
+}
+
+impl fmt::Debug for DecodedFrame {
+    fn fmt(&self, f: &mut fmt::Formatter<'_>) -> fmt::Result {
+        f.debug_struct("DecodedFrame")
+            .field("width", &self.width)
+            .field("height", &self.height)
+            .field("data_len", &self.data.len())
+            .finish()
+    }
+}
+
+/// The planes of a decoded YUV 4:2:0 picture: one view of an AVC444 picture, or an AVC420 picture.
+///
+/// Width and height of a chroma plane are the halves of the picture's, rounded up. Bytes of a plane between its width and its stride,
+/// or after its last row, reach no answer.
+///
+/// ```
+/// use haythaw::decode::Yuv420Frame;
+///
+/// // 3 x 3 pixels: luma rows of 4 bytes, chroma rows of 2.
+/// let view = Yuv420Frame::new(3, 3, vec![53; 12], 4, vec![99; 4], vec![255; 4], 2)?;
+/// assert_eq!(view.luma_row(2), Some(&[53; 3][..]));
+/// assert_eq!(view.u_row(1), Some(&[99; 2][..]));
+/// assert_eq!(view.u_row(2), None);
+/// assert_eq!(view.to_rgba().data()[..4], [252, 0, 0, 255]);
+/// # Ok::<(), haythaw::decode::DecoderError>(())
+/// ```
+#[derive(Clone)]
+#[non_exhaustive]
+pub struct Yuv420Frame {
+    // INVARIANT: the library accepts these strides and planes as a view of this width and height.
+    y: Vec<u8>,
+    u: Vec<u8>,
+    v: Vec<u8>,
+    luma_stride: usize,
+    chroma_stride: usize,
+    width: u16,
+    height: u16,
+}
+
+impl Yuv420Frame {
+    /// Wraps planes with luma rows of `luma_stride` bytes and chroma rows of `chroma_stride` bytes.
+    ///
+    /// # Errors
+    ///
+    /// When a stride is narrower than its plane, or a plane shorter than its rows.
+    ///
+    /// ```
+    /// use haythaw::decode::Yuv420Frame;
+    ///
+    /// let narrow = Yuv420Frame::new(3, 3, vec![0; 12], 2, vec![0; 4], vec![0; 4], 2);
+    /// assert_eq!(narrow.unwrap_err().to_string(), "decoder error: YUV 4:2:0 stride narrower than its plane");
+    /// let short = Yuv420Frame::new(3, 3, vec![0; 11], 4, vec![0; 4], vec![0; 4], 2);
+    /// assert_eq!(short.unwrap_err().to_string(), "decoder error: YUV 4:2:0 plane shorter than its rows");
+    /// ```
+    pub fn new(
+        width: u16,
+        height: u16,
+        y: Vec<u8>,
+        luma_stride: usize,
+        u: Vec<u8>,
+        v: Vec<u8>,
+        chroma_stride: usize,
+    ) -> DecoderResult<Self> {
+        let view = Self { y, u, v, luma_stride, chroma_stride, width, height };
+        match library::view_number(view.lent()) {
+            3 => Err(DecoderError::msg("YUV 4:2:0 stride narrower than its plane")),
+            4 => Err(DecoderError::msg("YUV 4:2:0 plane shorter than its rows")),
+            number => {
+                library::done("view", number);
+                Ok(view)
+            }
+        }
+    }
+
+    /// Width in pixels.
+    pub fn width(&self) -> u16 {
+        self.width
+    }
+
+    /// Height in pixels.
+    pub fn height(&self) -> u16 {
+        self.height
+    }
+
+    /// Luma row `row`, as wide as the picture, or `None` below the last row.
+    pub fn luma_row(&self, row: usize) -> Option<&[u8]> {
+        part(&self.y, library::luma_row(self.lent(), row))
+    }
+
+    /// Row `row` of U, half as wide as the picture (rounded up), or `None` below the last row.
+    pub fn u_row(&self, row: usize) -> Option<&[u8]> {
+        part(&self.u, library::u_row(self.lent(), row))
+    }
+
+    /// Row `row` of V, half as wide as the picture (rounded up), or `None` below the last row.
+    pub fn v_row(&self, row: usize) -> Option<&[u8]> {
+        part(&self.v, library::v_row(self.lent(), row))
+    }
+
+    /// Converts the picture to RGBA with the transform of MS-RDPEGFX 3.3.8.3.1, each chroma sample for its 2x2 block.
+    ///
+    /// ```
+    /// use haythaw::decode::Yuv420Frame;
+    ///
+    /// let white = Yuv420Frame::new(2, 1, vec![254; 2], 2, vec![128], vec![128], 1)?.to_rgba();
+    /// assert_eq!(white.data(), [254, 254, 254, 255, 254, 254, 254, 255]);
+    /// # Ok::<(), haythaw::decode::DecoderError>(())
+    /// ```
+    pub fn to_rgba(&self) -> DecodedFrame {
+        let mut rgba = vec![0; usize::from(self.width) * usize::from(self.height) * 4];
+        let answer = library::view_to_rgba(self.lent(), &mut rgba);
+        library::done("view_to_rgba", answer.number);
+        rgba.truncate(answer.count);
+        DecodedFrame::new(rgba, u32::from(self.width), u32::from(self.height))
+    }
+
+    /// The view as the library takes it.
+    pub(crate) fn lent(&self) -> View<'_> {
+        View {
+            width: self.width,
+            height: self.height,
+            luma_stride: self.luma_stride,
+            chroma_stride: self.chroma_stride,
+            y: &self.y,
+            u: &self.u,
+            v: &self.v,
+        }
+    }
+}
+
+impl fmt::Debug for Yuv420Frame {
+    fn fmt(&self, f: &mut fmt::Formatter<'_>) -> fmt::Result {
+        f.debug_struct("Yuv420Frame").field("width", &self.width).field("height", &self.height).finish_non_exhaustive()
+    }
+}
+
+/// The row of a plane that the library found.
+fn part(plane: &[u8], row: Row) -> Option<&[u8]> {
+    library::done("row", row.number);
+    row.present.then(|| &plane[row.start..row.start + row.length])
+}
+
+/// Why something could not be decoded: what was tried, and perhaps the error below it.
+///
+/// ```
+/// use std::error::Error;
+///
+/// use haythaw::decode::DecoderError;
+///
+/// let cause = "x".parse::<u8>().unwrap_err();
+/// let error = DecoderError::new("no number", cause);
+/// assert_eq!(error.to_string(), "decoder error: no number: invalid digit found in string");
+/// assert!(error.source().is_some());
+/// assert!(DecoderError::msg("no picture").source().is_none());
+/// ```
+#[derive(Debug)]
+#[non_exhaustive]
+pub struct DecoderError {
+    context: String,
+    source: Option<Box<dyn core::error::Error + Send + Sync>>,
+}
+
+impl DecoderError {
+    /// An error that another one led to.
+    pub fn new(context: impl Into<String>, source: impl core::error::Error + Send + Sync + 'static) -> Self {
+        Self { context: context.into(), source: Some(Box::new(source)) }
+    }
+
+    /// An error of its own.
+    pub fn msg(context: impl Into<String>) -> Self {
+        Self { context: context.into(), source: None }
+    }
+}
+
+impl fmt::Display for DecoderError {
+    fn fmt(&self, f: &mut fmt::Formatter<'_>) -> fmt::Result {
+        write!(f, "decoder error: {}", self.context)?;
+        match &self.source {
+            Some(source) => write!(f, ": {source}"),
+            None => Ok(()),
+        }
+    }
+}
+
+impl core::error::Error for DecoderError {
+    fn source(&self) -> Option<&(dyn core::error::Error + 'static)> {
+        self.source.as_deref().map(|source| source as &(dyn core::error::Error + 'static))
+    }
+}
+
+/// A `T`, or why there is none.
+pub type DecoderResult<T> = Result<T, DecoderError>;

@@ -1,0 +1,20 @@
+#![doc = include_str!("../README.md")]
+#![deny(missing_docs)]
+#![deny(unsafe_code)] // but in `library`
+#![deny(unsafe_op_in_unsafe_fn)]
+#![deny(clippy::undocumented_unsafe_blocks)]
+
+pub mod avc444;
+pub mod decode;
+pub mod geometry;
+#[allow(unsafe_code)]
+mod library;
+pub mod pdu;
+
+#[doc(no_inline)]
+pub use crate::{
+    avc444::{Avc444Layout, Yuv444Frame},
+    decode::{DecodedFrame, DecoderError, DecoderResult, Yuv420Frame},
+    geometry::ExclusiveRectangle,
+    pdu::{avc_to_annex_b_into, is_avc_format},
+};

@@ -1,0 +1,138 @@
+//! The numbers that document 01 works by hand, through this crate's calls. A picture's planes are read by splitting it: the two views
+//! hold every sample.
+
+use haythaw::{Avc444Layout, ExclusiveRectangle, Yuv420Frame, Yuv444Frame};
+
+fn rect([left, top, right, bottom]: [u16; 4]) -> ExclusiveRectangle {
+    ExclusiveRectangle { left, top, right, bottom }
+}
+
+/// A view whose samples are all 7, with no byte to spare.
+fn sevens(width: u16, height: u16) -> Yuv420Frame {
+    let (w, h) = (usize::from(width), usize::from(height));
+    let chroma = vec![7; w.div_ceil(2) * h.div_ceil(2)];
+    Yuv420Frame::new(width, height, vec![7; w * h], w, chroma.clone(), chroma, w.div_ceil(2)).expect("a whole view")
+}
+
+/// Where luma and where U is 7: the columns of a picture's first row, padding included, and the rows of its first column.
+struct Taken {
+    luma_cols: Vec<usize>,
+    chroma_cols: Vec<usize>,
+    luma_rows: Vec<usize>,
+    chroma_rows: Vec<usize>,
+}
+
+fn taken(picture: &Yuv444Frame) -> Taken {
+    let (main, auxiliary) = picture.split(Avc444Layout::V2).expect("no side is above 65,520");
+    let luma = |row: usize, col: usize| main.luma_row(row).expect("a row")[col];
+    let u = |row: usize, col: usize| match (row % 2, col % 4) {
+        (_, 1 | 3) => auxiliary.luma_row(row).expect("a row")[col / 2],
+        (0, _) => main.u_row(row / 2).expect("a row")[col / 2],
+        (_, 0) => auxiliary.u_row(row / 2).expect("a row")[col / 4],
+        _ => auxiliary.v_row(row / 2).expect("a row")[col / 4],
+    };
+    let (cols, rows) = (0..usize::from(main.width()), 0..usize::from(main.height()));
+    Taken {
+        luma_cols: cols.clone().filter(|&col| luma(0, col) == 7).collect(),
+        chroma_cols: cols.filter(|&col| u(0, col) == 7).collect(),
+        luma_rows: rows.clone().filter(|&row| luma(row, 0) == 7).collect(),
+        chroma_rows: rows.filter(|&row| u(row, 0) == 7).collect(),
+    }
+}
+
+#[test]
+fn colours_forward_and_back() {
+    for (rgb, back) in [
+        ([0, 0, 0], [0, 0, 0]),
+        ([255, 255, 255], [254, 254, 254]),
+        ([255, 0, 0], [252, 0, 0]),
+        ([0, 255, 0], [0, 254, 0]),
+        ([0, 0, 255], [0, 0, 252]),
+    ] {
+        let [r, g, b] = rgb;
+        let picture = Yuv444Frame::from_rgba(&[r, g, b, 9].repeat(4), 2, 2).expect("four pixels");
+        let [r, g, b] = back;
+        assert_eq!(picture.to_rgba(&rect([0, 0, 2, 2])), [r, g, b, 255].repeat(4), "{rgb:?}");
+    }
+}
+
+#[test]
+fn rectangles_on_a_picture_of_5_by_5() {
+    let none = Vec::<usize>::new;
+    for (edges, luma_cols, chroma_cols) in [
+        ([5, 0, 5, 4], none(), vec![4, 5]),
+        ([4, 0, 4, 4], none(), none()),
+        ([3, 0, 6, 2], vec![3, 4, 5], vec![2, 3, 4, 5]),
+        ([3, 0, 5, 2], vec![3, 4], vec![2, 3, 4, 5]),
+    ] {
+        let mut picture = Yuv444Frame::new(5, 5);
+        picture.apply_main_view(&sevens(16, 16), &[rect(edges)]);
+        let taken = taken(&picture);
+        assert_eq!((taken.luma_cols, taken.chroma_cols), (luma_cols, chroma_cols), "{edges:?}");
+    }
+    let mut picture = Yuv444Frame::new(5, 5);
+    picture.apply_main_view(&sevens(16, 16), &[rect([0, 0, 2, 6])]);
+    let taken = taken(&picture);
+    assert_eq!((taken.luma_rows, taken.chroma_rows), (vec![0, 1, 2, 3, 4], vec![0, 1, 2, 3, 4, 5]));
+}
+
+#[test]
+fn a_cropped_view_of_layout_v1() {
+    let mut picture = Yuv444Frame::new(16, 12);
+    picture.apply_auxiliary_view(Avc444Layout::V1, &sevens(16, 12), &[rect([0, 0, 16, 12])]);
+    assert_eq!(taken(&picture).chroma_rows, [1, 3, 5, 7]); // row 9 wants V from row 12
+}
+
+#[test]
+fn a_cropped_view_of_layout_v2() {
+    let mut picture = Yuv444Frame::new(20, 16);
+    picture.apply_auxiliary_view(Avc444Layout::V2, &sevens(20, 16), &[rect([0, 0, 20, 16])]);
+    assert_eq!(taken(&picture).chroma_cols, [1, 3, 5, 7]); // column 9 wants V from column 16 + 4
+}
+
+#[test]
+fn a_list_of_rectangles_is_served_to_its_end() {
+    let mut picture = Yuv444Frame::new(5, 5);
+    picture.apply_main_view(&sevens(16, 16), &[rect([4, 0, 4, 4]), rect([0, 0, 1, 1]), rect([4, 0, 5, 1])]);
+    let taken = taken(&picture);
+    assert_eq!((taken.luma_cols, taken.chroma_cols), (vec![0, 4], vec![0, 1, 4, 5]));
+}
+
+#[test]
+fn sides_that_split_and_sides_that_do_not() {
+    for layout in [Avc444Layout::V1, Avc444Layout::V2] {
+        assert!(Yuv444Frame::new(65_520, 0).split(layout).is_ok());
+        let error = Yuv444Frame::new(65_521, 0).split(layout).unwrap_err();
+        assert_eq!(error.to_string(), "decoder error: padded AVC444 picture exceeds 65535 pixels");
+        assert!(Yuv444Frame::new(0, 65_521).split(layout).is_err());
+        let (main, auxiliary) = Yuv444Frame::new(0, 20).split(layout).expect("empty views");
+        assert_eq!((main.width(), main.height(), auxiliary.luma_row(31)), (0, 32, Some(&[][..])));
+    }
+}
+
+#[test]
+fn pixels_that_are_too_few_for_a_large_picture_allocate_nothing() {
+    assert!(Yuv444Frame::from_rgba(&[0; 64], 65_535, 65_535).is_none());
+}
+
+#[test]
+fn a_stride_too_large_for_the_machine_is_refused() {
+    assert!(Yuv420Frame::new(1, 3, vec![0; 9], usize::MAX, vec![0; 9], vec![0; 9], 1).is_err());
+    assert!(Yuv420Frame::new(1, 0, vec![], usize::MAX, vec![], vec![], usize::MAX).is_ok());
+}
+
+#[test]
+fn a_first_unit_of_256_to_511_bytes_is_read_as_annex_b() {
+    for (length, avc) in [(255, true), (256, false), (511, false), (512, true)] {
+        let mut data = u32::to_be_bytes(length).to_vec();
+        data.resize(4 + length as usize, 9);
+        assert_eq!(haythaw::is_avc_format(&data), avc, "{length}");
+    }
+}
+
+#[cfg(debug_assertions)]
+#[test]
+#[should_panic(expected = "DecodedFrame buffer must be RGBA8888")]
+fn a_decoded_frame_has_its_pixels() {
+    let _ = haythaw::DecodedFrame::new(vec![0; 3], 1, 1);
+}
