@@ -34,6 +34,9 @@ fn act(options: &Options) -> bool {
     }
 }
 
+/// After so many differences a run ends: the first ones say what there is to say.
+const ENOUGH: u64 = 100;
+
 /// Answers and bytes of each call.
 type Tally = BTreeMap<&'static str, (u64, u64)>;
 
@@ -63,6 +66,10 @@ fn compare(options: &Options, only: Option<usize>) -> bool {
         }
         compared += 1;
         progress.tell(|| format!("{compared} cases, {bytes} bytes compared, {differences} differences"));
+        if differences == ENOUGH {
+            println!("dropin: stopped after {ENOUGH} differences");
+            break;
+        }
     }
     if let (Some(only), 0) = (only, compared) {
         eprintln!("dropin: there is no case {only}");
