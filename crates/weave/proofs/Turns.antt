@@ -1,14 +1,14 @@
 -- The laws of every second place, and of what a part of a row reads from its sources. Assumes nothing.
 use Prim.Native.Nat.{ℕ, _+_, _*_, _/_, _%_, _-_, _<_, _≤_}
 use native.Mathlib.Omega.{arith}
-use mathlib.Core.Path.{_≡_, sym, ap, _∙_}
+use mathlib.Core.Path.{_≡_, refl, sym, ap, _∙_}
 use mathlib.Core.Bool.{Bool, true, false, cond}
 use mathlib.Core.Logic.{_⊎_, inl, inr, ⊎-elim}
 use mathlib.Core.List.{List}
 use lib.Dec.{ltb, eqb}
 use lib.ListN.{length, getD, set, take, drop}
 use lib.Seq.{getD-take, getD-drop}
-use borrow.Author.Tests.{lt-ltb, eq-eqb, eqb-true}
+use borrow.Author.Tests.{lt-ltb, le-ltb, eq-eqb, eqb-true}
 use Rattle.lent.specs.Paint.{paint, every}
 use Rattle.lent.proofs.Bools.{split, never-true, cond-true, cond-false}
 use Rattle.lent.proofs.Paint.{paint-next, paint-ext, length-paint, getD-paint, paint-is}
@@ -29,6 +29,14 @@ is-even k e = eq-eqb (k % 2) 0 e
 pub not-even : (k : ℕ) → k % 2 ≡ 1 → even k ≡ false
 unfolding even
 not-even k e = never-true (eqb (k % 2) 0) (λ p. omega (arith, eqb-true (k % 2) 0 p))
+
+pub even-true : (k : ℕ) → even k ≡ true → k % 2 ≡ 0
+unfolding even
+even-true k e = eqb-true (k % 2) 0 e
+
+pub odd-true : (k : ℕ) → odd k ≡ true → k % 2 ≡ 1
+unfolding odd
+odd-true k e = eqb-true (k % 2) 1 e
 
 pub woven-odd : (e o : List ℕ) (k : ℕ) → k % 2 ≡ 1 → woven e o k ≡ getD o (k / 2) 0
 unfolding woven
@@ -55,31 +63,46 @@ weave-next e o xs i h =
 pub parity : (k : ℕ) → (k % 2 ≡ 1) ⊎ (k % 2 ≡ 0)
 parity k = ⊎-elim (λ lt. inr (omega arith)) (λ ge. inl (omega arith)) (split (k % 2) 1)
 
--- a row whose every second place is kept and whose others are new
+-- a row whose odd places are kept and whose even ones are new
 module _ (dst from z : List ℕ) (room : length dst ≤ 2 * length z) (whole : length dst % 2 ≡ 0) where
-  kept-at : (first k : ℕ) → k % 2 ≡ first → k < length dst → getD (paint (λ j. ltb j (length dst / 2)) (λ j. getD dst (2 * j + first) 0) z) (k / 2) 0 ≡ getD dst k 0
-  kept-at first k e h =
+  kept-at : (k : ℕ) → k % 2 ≡ 1 → k < length dst → getD (paint (λ j. ltb j (length dst / 2)) (λ j. getD dst (2 * j + 1) 0) z) (k / 2) 0 ≡ getD dst k 0
+  kept-at k e h =
       getD-paint _ _ z (k / 2) (omega arith)
       ∙ cond-true (ltb (k / 2) (length dst / 2)) _ _ (lt-ltb (k / 2) (length dst / 2) (omega arith))
       ∙ ap (λ (j : ℕ). getD dst j 0) (omega arith)
-
-  pub odds-new : paint (λ k. ltb k (2 * (length dst / 2))) (woven (paint (λ j. ltb j (length dst / 2)) (λ j. getD dst (2 * j + 0) 0) z) from) dst ≡ paint odd (λ k. getD from (k / 2) 0) dst
-  odds-new =
-      paint-is odd _ dst _ (length-paint _ _ dst)
-      (λ k h. getD-paint _ _ dst k h ∙ cond-true (ltb k (2 * (length dst / 2))) _ _ (lt-ltb k (2 * (length dst / 2)) (omega arith))
-      ∙ ⊎-elim
-      (λ o. woven-odd _ from k o ∙ sym (cond-true (odd k) _ _ (is-odd k o)))
-      (λ e. woven-even _ from k e ∙ kept-at 0 k e h ∙ sym (cond-false (odd k) _ _ (not-odd k e)))
-      (parity k))
 
   pub evens-new : (new : ℕ → ℕ) → ((j : ℕ) → j < length dst / 2 → getD from j 0 ≡ new j) → paint (λ k. ltb k (2 * (length dst / 2))) (woven from (paint (λ j. ltb j (length dst / 2)) (λ j. getD dst (2 * j + 1) 0) z)) dst ≡ paint even (λ k. new (k / 2)) dst
   evens-new new is =
       paint-is even _ dst _ (length-paint _ _ dst)
       (λ k h. getD-paint _ _ dst k h ∙ cond-true (ltb k (2 * (length dst / 2))) _ _ (lt-ltb k (2 * (length dst / 2)) (omega arith))
       ∙ ⊎-elim
-      (λ o. woven-odd from _ k o ∙ kept-at 1 k o h ∙ sym (cond-false (even k) _ _ (not-even k o)))
+      (λ o. woven-odd from _ k o ∙ kept-at k o h ∙ sym (cond-false (even k) _ _ (not-even k o)))
       (λ e. woven-even from _ k e ∙ is (k / 2) (omega arith) ∙ sym (cond-true (even k) _ _ (is-even k e)))
       (parity k))
+
+-- a loop that writes each place in turn, from xs at an even one and from ys at an odd one
+module _ (xs ys : List ℕ) where
+  abbrev pub by-turns : ℕ → ℕ
+  by-turns k = cond (odd k) (getD ys k 0) (getD xs k 0)
+
+  pub turns-next : (k v : ℕ) → k < length xs → v ≡ cond (odd k) (getD ys k 0) (getD (paint (λ j. ltb j k) by-turns xs) k 0) → set (paint (λ j. ltb j k) by-turns xs) k v ≡ paint (λ j. ltb j (k + 1)) by-turns xs
+  turns-next k v h e =
+      paint-next by-turns xs k v h
+      (e ∙ ap (λ (x : ℕ). cond (odd k) (getD ys k 0) x) (getD-paint _ by-turns xs k h ∙ cond-false (ltb k k) _ _ (le-ltb k k (omega arith))))
+
+  pub turns-all : paint (λ j. ltb j (length xs)) by-turns xs ≡ paint odd (λ k. getD ys k 0) xs
+  turns-all =
+      paint-is odd _ xs _ (length-paint _ _ xs)
+      (λ k h. getD-paint _ _ xs k h ∙ cond-true (ltb k (length xs)) _ _ (lt-ltb k (length xs) h))
+
+-- of a row in which each byte of `from` stands twice, the odd places
+pub odds-twice : (dst from z : List ℕ) → length dst ≤ length z → length dst % 2 ≡ 0
+    → paint odd (λ k. getD (paint (λ j. ltb j (2 * (length dst / 2))) (woven from from) z) k 0) dst ≡ paint odd (λ k. getD from (k / 2) 0) dst
+odds-twice dst from z room whole =
+    paint-ext odd odd _ _ dst (λ k h. refl)
+    (λ k h e. getD-paint _ _ z k (omega arith)
+    ∙ cond-true (ltb k (2 * (length dst / 2))) _ _ (lt-ltb k (2 * (length dst / 2)) (omega arith))
+    ∙ woven-odd from from k (odd-true k e))
 
 -- u and v by turns, read from the lead on
 pub turns-at : (u v z : List ℕ) (m n lead j : ℕ) → 2 * m ≤ length z → lead + j < 2 * m → j < n → getD (take n (drop lead (paint (λ k. ltb k (2 * m)) (woven u v) z))) j 0 ≡ woven u v (lead + j)
@@ -123,14 +146,6 @@ evens-from u v at left right j e e′ h ej =
     (λ z. let four : (left + j) % 4 ≡ 0 = omega arith in
     woven-even _ _ m z ∙ part-at u from to (m / 2) (at + (left + j) / 4) room place ∙ sym (ap (λ (b : Bool). cond b (getD u (at + (left + j) / 4) 0) (getD v (at + (left + j) / 4) 0)) (eq-eqb ((left + j) % 4) 0 four)))
     (parity m)
-
-pub even-true : (k : ℕ) → even k ≡ true → k % 2 ≡ 0
-unfolding even
-even-true k e = eqb-true (k % 2) 0 e
-
-pub odd-true : (k : ℕ) → odd k ≡ true → k % 2 ≡ 1
-unfolding odd
-odd-true k e = eqb-true (k % 2) 1 e
 
 -- the part of a source row that a copied part reads
 pub copy-from : (src : List ℕ) (at left right j : ℕ) → left + j < right → getD (take (at + right - (at + left)) (drop (at + left) src)) j 0 ≡ getD src (at + (left + j)) 0

@@ -5,7 +5,7 @@
 // every second byte is not.
 ghost use mathlib.Core.Path.{_≡_};
 ghost use mathlib.Core.Bool.{cond};
-ghost use Prim.Native.Nat.{_+_, _*_, _/_, _%_, _<_, _≤_};
+ghost use Prim.Native.Nat.{_+_, _*_, _/_, _%_, _<_, _≤_, min};
 ghost use lib.Dec.{ltb};
 ghost use lib.ListN.{length, getD};
 ghost use Rattle.lent.specs.Paint.{paint, painted, every, rowPart};
@@ -40,17 +40,45 @@ pub fn weave(dst: &mut [u8], evens: &[u8], odds: &[u8], n: usize)
     }
 }
 
-// The odd places of dst, at most 512 bytes, become those of `from`.
+// The smaller of two bytes.
+fn smaller(a: u8, b: u8) -> u8
+    ensures { λ r. ⌜ r ≡ min a b ⌝ }
+{
+    if a < b { a } else { b }
+}
+
+// Of two bytes the one for place k: `kept` at an even place, `new` at an odd one. With no branch, so that a row of them is vector code.
+fn turned(k: usize, kept: u8, new: u8) -> u8
+    ensures { λ r. ⌜ r ≡ cond (odd k) new kept ⌝ }
+{
+    let most = 255 * (k % 2) as u8;
+    smaller(kept, 255 - most) + smaller(new, most)
+}
+
+// The odd places of dst become those of `new`.
+fn odds_from(dst: &mut [u8], new: &[u8])
+    requires { ⌜ length (now dst) ≤ length (now new) ⌝ }
+    ensures { λ _. ⌜ now (dst .exit) ≡ paint odd (λ k. getD (now (new .entry)) k 0) (now (dst .entry)) ⌝ }
+{
+    let mut k = 0;
+    while k < dst.len() {
+        dst[k] = turned(k, dst[k], new[k]);
+        k += 1;
+    }
+}
+
+// The odd places of dst, at most 128 bytes, become those of `from`: each byte goes twice into an array, of which dst takes the odd
+// places. Taking the even bytes of dst out and weaving them in again is slower, since the compiler reads every second byte one by one.
 pub fn odd_part(dst: &mut [u8], from: &[u8])
     requires { ⌜ length (now dst) % 2 ≡ 0 ⌝ }
-    requires { ⌜ length (now dst) ≤ 512 ⌝ }
+    requires { ⌜ length (now dst) ≤ 128 ⌝ }
     requires { ⌜ length (now dst) ≤ 2 * length (now from) ⌝ }
     ensures { λ _. ⌜ now (dst .exit) ≡ paint odd (λ k. getD (now (from .entry)) (k / 2) 0) (now (dst .entry)) ⌝ }
 {
-    let mut kept = [0u8; 256];
+    let mut twice = [0u8; 128];
     let n = dst.len() / 2;
-    seconds(&mut kept, dst, 0, n);
-    weave(dst, &kept, from, n);
+    weave(&mut twice, from, from, n);
+    odds_from(dst, &twice);
 }
 
 // The even places of dst, at most 508 bytes, become u and v by turns, from u or from v on.
@@ -87,7 +115,7 @@ pub fn put_odds(
     let line = row * stride;
     let mut col = left;
     while col < right {
-        let end = col + lent::least(right - col, 512);
+        let end = col + lent::least(right - col, 128);
         odd_part(
             &mut dst[line + col..line + end],
             &src[at + col / 2..at + end / 2],
@@ -198,24 +226,6 @@ pub fn put_full(
         );
         col = end;
     }
-}
-
-// dst becomes the odd columns of a row: dst[i] is src[2 i + 1].
-pub fn odds_of(dst: &mut [u8], src: &[u8])
-    requires { ⌜ 2 * length (now dst) ≤ length (now src) ⌝ }
-    ensures { λ _. ⌜ now (dst .exit) ≡ paint every (λ k. getD (now (src .entry)) (2 * k + 1) 0) (now (dst .entry)) ⌝ }
-{
-    let n = dst.len();
-    seconds(dst, src, 1, n);
-}
-
-// dst becomes the even columns of a row: dst[i] is src[2 i].
-pub fn evens_of(dst: &mut [u8], src: &[u8])
-    requires { ⌜ 2 * length (now dst) ≤ length (now src) ⌝ }
-    ensures { λ _. ⌜ now (dst .exit) ≡ paint every (λ k. getD (now (src .entry)) (2 * k) 0) (now (dst .entry)) ⌝ }
-{
-    let n = dst.len();
-    seconds(dst, src, 0, n);
 }
 
 // dst becomes every fourth column of a row, the first being src[first]: dst[i] is src[4 i + first].

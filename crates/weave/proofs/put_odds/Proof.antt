@@ -91,7 +91,7 @@ loop-again c =
     let a = s .args in
     let end : ℕ = l .loop .col + least .least .result in
     let z = l .loop .inv .2 in
-    let go = turn 512 refl (omega arith) (least .before .loop-test .taken) z (s .pre .even-right) (least .least .ensures) in
+    let go = turn 128 refl (omega arith) (least .before .loop-test .taken) z (s .pre .even-right) (least .least .ensures) in
     let next = cols-step (a .stride) (a .rows) odd (λ _ k. getD (a .src .now) (a .at + k / 2) 0) (a .dst .now) (a .row) (a .left) (l .loop .col) end
     (s .pre .plane-fits) (s .pre .row-inside) (l .loop .inv .0) (le-add (l .loop .col) (least .least .result)) (le-trans (go .3) (s .pre .inside)) (l .loop .inv .4) (call .odd-part .ensures)
     (λ j h. odd-shift (l .loop .col) j z)
