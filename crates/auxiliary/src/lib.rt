@@ -5,14 +5,14 @@
 // that a caller leans on are in proofs/Laws.antt.
 ghost use mathlib.Core.Path.{_≡_};
 ghost use mathlib.Core.List.{[], _∷_};
-ghost use Prim.Native.Nat.{_*_, _≤_};
+ghost use Prim.Native.Nat.{_+_, _*_, _≤_};
 ghost use lib.ListN.{length};
 ghost use Rattle.lent.specs.Paint.{painted};
 ghost use Rattle.picture.specs.Sizes.{strideOf, rowsOf};
 ghost use Rattle.view.specs.View.{ViewFits};
 ghost use Rattle.layout.specs.declared.Layout.the-variants.{V1, V2};
 ghost use Rattle.combine.specs.Rects.{by};
-ghost use Rattle.auxiliary_rows.specs.Rows.{auxSource, RowsFit};
+ghost use Rattle.auxiliary_rows.specs.Rows.{auxSource, auxRow, RowsFit};
 ghost use Rattle.auxiliary.specs.Auxiliary.{auxIn, auxRule, auxAfter, AuxOutcome};
 use combine::Area;
 use combine::Rect;
@@ -20,6 +20,30 @@ use layout::Chroma;
 use layout::Layout;
 use picture::Size;
 use view::View;
+
+// One row of a chroma plane, by either layout.
+fn aux_row(
+    layout: Layout,
+    which: Chroma,
+    dst: &mut [u8],
+    size: Size,
+    w: View,
+    vy: &[u8],
+    vu: &[u8],
+    vv: &[u8],
+    row: usize,
+    left: usize,
+    right: usize,
+)
+    requires { ⌜ RowsFit size (length (now dst)) (row + 1) left right ⌝ }
+    requires { ⌜ ViewFits w (length (now vy)) (length (now vu)) (length (now vv)) ⌝ }
+    ensures { λ _. ⌜ now (dst .exit) ≡ painted (strideOf size) (rowsOf size) (auxRow layout w row left right) (auxSource layout which w (now (vy .entry)) (now (vu .entry)) (now (vv .entry))) (now (dst .entry)) ⌝ }
+{
+    match layout {
+        Layout::V1 => v1_rows::v1_row(which, dst, size, w, vy, vu, vv, row, left, right),
+        Layout::V2 => v2_rows::v2_row(which, dst, size, w, vy, vu, vv, row, left, right),
+    }
+}
 
 // The rows of the area, one after the other.
 fn aux_rows(
@@ -39,7 +63,7 @@ fn aux_rows(
 {
     let mut row = area.top;
     while row < area.bottom {
-        auxiliary_rows::aux_row(
+        aux_row(
             layout,
             which,
             plane,

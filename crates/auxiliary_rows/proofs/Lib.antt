@@ -1,5 +1,3 @@
--- The laws of a row's columns, what the view feeds of each kind and from where, and that it is there to be read.
+-- The laws of a row's columns, and from where the view feeds each kind.
 pub mod Columns
-pub mod Feeds
 pub mod Sources
-pub mod Limits

@@ -1,3 +1,2 @@
--- The laws of every second column.
+-- The laws of every second place.
 pub mod Turns
-pub mod Columns

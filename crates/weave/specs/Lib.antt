@@ -1,2 +1,2 @@
--- Every second place of a row, and what the row writers ask.
+-- Every second place of a row.
 pub mod Turns

@@ -4,9 +4,7 @@
 --   woven evens odds k          byte k of a row that has `evens` at its even places and `odds` at its odd ones
 --   fourth u v at c             of the even columns, those by fours are from u, those between from v: the sample of column c, where
 --                               the row's samples start at `at` (document 01, "V2 auxiliary")
---   OddsFit, EvensFit, CopyFits what a row writer asks of its caller: n is the plane's length, m, mu, mv are those of the sources
-use Prim.Native.Nat.{ℕ, _+_, _*_, _/_, _%_, _<_, _≤_}
-use mathlib.Core.Path.{_≡_}
+use Prim.Native.Nat.{ℕ, _+_, _/_, _%_}
 use mathlib.Core.Bool.{Bool, cond}
 use mathlib.Core.List.{List}
 use lib.Dec.{eqb}
@@ -23,29 +21,3 @@ woven evens odds k = cond (odd k) (getD odds (k / 2) 0) (getD evens (k / 2) 0)
 
 unfoldable pub fourth : List ℕ → List ℕ → ℕ → ℕ → ℕ
 fourth u v at c = cond (eqb (c % 4) 0) (getD u (at + c / 4) 0) (getD v (at + c / 4) 0)
-
-pub record OddsFit (n w h m at row left right : ℕ) : Type 0 where
-  pub plane-fits : h * w ≤ n
-  pub row-inside : row < h
-  pub ordered : left ≤ right
-  pub inside : right ≤ w
-  pub seen : at + right / 2 ≤ m
-  pub even-left : left % 2 ≡ 0
-  pub even-right : right % 2 ≡ 0
-
-pub record EvensFit (n w h mu mv at row left right : ℕ) : Type 0 where
-  pub plane-fits : h * w ≤ n
-  pub row-inside : row < h
-  pub ordered : left ≤ right
-  pub inside : right ≤ w
-  pub seen-u : at + (right / 2 + 1) / 2 ≤ mu
-  pub seen-v : at + (right / 2 + 1) / 2 ≤ mv
-  pub even-left : left % 2 ≡ 0
-  pub even-right : right % 2 ≡ 0
-
-pub record CopyFits (n w h m at row left right : ℕ) : Type 0 where
-  pub plane-fits : h * w ≤ n
-  pub row-inside : row < h
-  pub ordered : left ≤ right
-  pub inside : right ≤ w
-  pub seen : at + right ≤ m

@@ -1,15 +1,14 @@
-// Row writers and readers for every second and every fourth column.
+// Every second and every fourth byte of a short row: two rows woven into one, and the parts that the row writers are made of.
 //
-// Each promises every byte of what it is lent: a writer paints columns of one row of a plane and leaves every other byte as it was, a
-// reader fills the whole of dst. A writer weaves through a local array, which the compiler turns into vector code; a loop that stores
-// every second byte is not.
+// Each promises every byte of what it is lent. A part is woven through a local array, which the compiler turns into vector code; a loop
+// that stores or reads every second byte is not. The array is short, since it is cleared for each part.
 ghost use mathlib.Core.Path.{_≡_};
 ghost use mathlib.Core.Bool.{cond};
 ghost use Prim.Native.Nat.{_+_, _*_, _/_, _%_, _<_, _≤_, min};
 ghost use lib.Dec.{ltb};
 ghost use lib.ListN.{length, getD};
-ghost use Rattle.lent.specs.Paint.{paint, painted, every, rowPart};
-ghost use Rattle.weave.specs.Turns.{odd, even, woven, fourth, OddsFit, EvensFit, CopyFits};
+ghost use Rattle.lent.specs.Paint.{paint, every};
+ghost use Rattle.weave.specs.Turns.{odd, even, woven};
 
 // The first n bytes of dst become every second byte of src, the first being src[first].
 pub fn seconds(dst: &mut [u8], src: &[u8], first: usize, n: usize)
@@ -81,151 +80,37 @@ pub fn odd_part(dst: &mut [u8], from: &[u8])
     odds_from(dst, &twice);
 }
 
-// The even places of dst, at most 508 bytes, become u and v by turns, from u or from v on.
+// The even places of dst, at most 252 bytes, become u and v by turns, from u or from v on.
 pub fn even_part(dst: &mut [u8], u: &[u8], v: &[u8], lead: usize)
     requires { ⌜ length (now dst) % 2 ≡ 0 ⌝ }
-    requires { ⌜ length (now dst) ≤ 508 ⌝ }
+    requires { ⌜ length (now dst) ≤ 252 ⌝ }
     requires { ⌜ lead < 2 ⌝ }
     requires { ⌜ (lead + length (now dst) / 2 + 1) / 2 ≤ length (now u) ⌝ }
     requires { ⌜ (lead + length (now dst) / 2 + 1) / 2 ≤ length (now v) ⌝ }
     ensures { λ _. ⌜ now (dst .exit) ≡ paint even (λ k. woven (now (u .entry)) (now (v .entry)) (lead + k / 2)) (now (dst .entry)) ⌝ }
 {
-    let mut turns = [0u8; 256];
-    let mut kept = [0u8; 256];
+    let mut turns = [0u8; 128];
+    let mut kept = [0u8; 128];
     let n = dst.len() / 2;
     weave(&mut turns, u, v, (lead + n + 1) / 2);
     seconds(&mut kept, dst, 1, n);
     weave(dst, &turns[lead..], &kept, n);
 }
 
-// Of row `row` of the plane, the odd columns from left to below right become the bytes of src from `at` on: column c has src[at + c / 2].
-pub fn put_odds(
-    dst: &mut [u8],
-    stride: usize,
-    rows: usize,
-    src: &[u8],
-    at: usize,
-    row: usize,
-    left: usize,
-    right: usize,
-)
-    requires { ⌜ OddsFit (length (now dst)) stride rows (length (now src)) at row left right ⌝ }
-    ensures { λ _. ⌜ now (dst .exit) ≡ painted stride rows (rowPart odd row left right) (λ _ c. getD (now (src .entry)) (at + c / 2) 0) (now (dst .entry)) ⌝ }
-{
-    let line = row * stride;
-    let mut col = left;
-    while col < right {
-        let end = col + lent::least(right - col, 128);
-        odd_part(
-            &mut dst[line + col..line + end],
-            &src[at + col / 2..at + end / 2],
-        );
-        col = end;
-    }
-}
-
-// Of row `row` of the plane, the even columns from left to below right become u[at + c / 4] where c % 4 is 0, and v[at + c / 4] where it is 2.
-pub fn put_evens(
-    dst: &mut [u8],
-    stride: usize,
-    rows: usize,
-    u: &[u8],
-    v: &[u8],
-    at: usize,
-    row: usize,
-    left: usize,
-    right: usize,
-)
-    requires { ⌜ EvensFit (length (now dst)) stride rows (length (now u)) (length (now v)) at row left right ⌝ }
-    ensures { λ _. ⌜ now (dst .exit) ≡ painted stride rows (rowPart even row left right) (λ _ c. fourth (now (u .entry)) (now (v .entry)) at c) (now (dst .entry)) ⌝ }
-{
-    let line = row * stride;
-    let mut col = left;
-    while col < right {
-        let end = col + lent::least(right - col, 508);
-        let from = at + col / 4;
-        let to = at + (end / 2 + 1) / 2;
-        let lead = col / 2 % 2;
-        even_part(
-            &mut dst[line + col..line + end],
-            &u[from..to],
-            &v[from..to],
-            lead,
-        );
-        col = end;
-    }
-}
-
-// Of row `row` of the plane, the columns from left to below right become the bytes of src from `at` on: column c has src[at + c].
-pub fn put_copy(
-    dst: &mut [u8],
-    stride: usize,
-    rows: usize,
-    src: &[u8],
-    at: usize,
-    row: usize,
-    left: usize,
-    right: usize,
-)
-    requires { ⌜ CopyFits (length (now dst)) stride rows (length (now src)) at row left right ⌝ }
-    ensures { λ _. ⌜ now (dst .exit) ≡ painted stride rows (rowPart every row left right) (λ _ c. getD (now (src .entry)) (at + c) 0) (now (dst .entry)) ⌝ }
-{
-    let line = row * stride;
-    lent::copy(
-        &mut dst[line + left..line + right],
-        &src[at + left..at + right],
-    );
-}
-
-// All places of dst, at most 508 bytes: the odd ones become those of `from`, the even ones u and v by turns, from u or from v on.
+// All places of dst, at most 252 bytes: the odd ones become those of `from`, the even ones u and v by turns, from u or from v on.
 pub fn full_part(dst: &mut [u8], from: &[u8], u: &[u8], v: &[u8], lead: usize)
     requires { ⌜ length (now dst) % 2 ≡ 0 ⌝ }
-    requires { ⌜ length (now dst) ≤ 508 ⌝ }
+    requires { ⌜ length (now dst) ≤ 252 ⌝ }
     requires { ⌜ lead < 2 ⌝ }
     requires { ⌜ (lead + length (now dst) / 2 + 1) / 2 ≤ length (now u) ⌝ }
     requires { ⌜ (lead + length (now dst) / 2 + 1) / 2 ≤ length (now v) ⌝ }
     requires { ⌜ length (now dst) ≤ 2 * length (now from) ⌝ }
     ensures { λ _. ⌜ now (dst .exit) ≡ paint every (λ k. cond (odd k) (getD (now (from .entry)) (k / 2) 0) (woven (now (u .entry)) (now (v .entry)) (lead + k / 2))) (now (dst .entry)) ⌝ }
 {
-    let mut evens = [0u8; 256];
+    let mut evens = [0u8; 128];
     let n = dst.len() / 2;
     weave(&mut evens, u, v, (lead + n + 1) / 2);
     weave(dst, &evens[lead..], from, n);
-}
-
-// Of row `row` of the plane, all columns from left to below right: the odd ones as by `put_odds`, the even ones as by `put_evens`.
-pub fn put_full(
-    dst: &mut [u8],
-    stride: usize,
-    rows: usize,
-    src: &[u8],
-    luma: usize,
-    u: &[u8],
-    v: &[u8],
-    at: usize,
-    row: usize,
-    left: usize,
-    right: usize,
-)
-    requires { ⌜ OddsFit (length (now dst)) stride rows (length (now src)) luma row left right ⌝ }
-    requires { ⌜ EvensFit (length (now dst)) stride rows (length (now u)) (length (now v)) at row left right ⌝ }
-    ensures { λ _. ⌜ now (dst .exit) ≡ painted stride rows (rowPart every row left right) (λ _ c. cond (odd c) (getD (now (src .entry)) (luma + c / 2) 0) (fourth (now (u .entry)) (now (v .entry)) at c)) (now (dst .entry)) ⌝ }
-{
-    let line = row * stride;
-    let mut col = left;
-    while col < right {
-        let end = col + lent::least(right - col, 508);
-        let from = at + col / 4;
-        let to = at + (end / 2 + 1) / 2;
-        full_part(
-            &mut dst[line + col..line + end],
-            &src[luma + col / 2..luma + end / 2],
-            &u[from..to],
-            &v[from..to],
-            col / 2 % 2,
-        );
-        col = end;
-    }
 }
 
 // dst becomes every fourth column of a row, the first being src[first]: dst[i] is src[4 i + first].

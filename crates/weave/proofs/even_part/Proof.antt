@@ -56,7 +56,7 @@ returns c =
     w .weave2 .ensures
     ∙ rw (k .seconds .ensures, t .weave .ensures)
     (evens-new (a .dst .now) _ _ (omega arith) (omega arith) (λ j. woven (a .u .now) (a .v .now) (a .lead + j))
-    (λ j h. turns-at (a .u .now) (a .v .now) _ ((a .lead + length (a .dst .now) / 2 + 1) / 2) (256 - a .lead) (a .lead) j (omega arith) (omega arith) (omega arith)))
+    (λ j h. turns-at (a .u .now) (a .v .now) _ ((a .lead + length (a .dst .now) / 2 + 1) / 2) (128 - a .lead) (a .lead) j (omega arith) (omega arith) (omega arith)))
 
 pub even-part-spec : {M : Type 1} → statement M
 even-part-spec =

@@ -46,7 +46,7 @@ returns c =
     w .weave2 .ensures
     ∙ rw (t .weave .ensures)
     (full-new (a .dst .now) _ (a .from .now) (λ j. woven (a .u .now) (a .v .now) (a .lead + j)) (omega arith)
-    (λ j h. turns-at (a .u .now) (a .v .now) _ ((a .lead + length (a .dst .now) / 2 + 1) / 2) (256 - a .lead) (a .lead) j (omega arith) (omega arith) (omega arith)))
+    (λ j h. turns-at (a .u .now) (a .v .now) _ ((a .lead + length (a .dst .now) / 2 + 1) / 2) (128 - a .lead) (a .lead) j (omega arith) (omega arith) (omega arith)))
 
 pub full-part-spec : {M : Type 1} → statement M
 full-part-spec =

@@ -1,0 +1,2 @@
+-- What the row writers ask.
+pub mod Fits
