@@ -25,7 +25,7 @@ use Rattle.split.specs.declared.Views.{Views}
 use Rattle.split.specs.Split.{Planes, lengthsOf, mainSample, auxSample, viewShort, viewAfter, splitNumberOf, splitAnswerOf, splitBuffersOf, SplitEnds}
 use Rattle.split.proofs.Exactly.{small-exactly, split-5-plainly, split-0-exactly}
 
--- of `split_v1` and of `split_v2`: t is V1 or V2
+-- of `split`, and of `split_v1` and `split_v2` where t is V1 or V2
 pub split-unique : (t : Layout) (z : Size) (p m a : Planes) (r q : Views) (rs qs : List (List ℕ)) → SplitEnds t z p m a r rs → SplitEnds t z p m a q qs → (r ≡ q) × (rs ≡ qs)
 split-unique t z p m a = outcome-unique (λ (i : Planes). splitAnswerOf z (splitNumberOf z (lengthsOf i) (lengthsOf m) (lengthsOf a))) (λ i. splitBuffersOf t z i m a) p
 

@@ -17,6 +17,7 @@ ghost use Rattle.layout.specs.declared.Layout.the-variants.{V1, V2};
 ghost use Rattle.split.specs.Split.{planes, lengthsOf, mainSample, auxSample, tooLarge, viewShort, splitNumberOf, splitAnswerOf, v2ChromaSample, Written, SplitEnds};
 ghost use Rattle.split.specs.Pairs.{pairOf};
 ghost use Rattle.split.specs.Fits.{RowFits, BlockFits, Whole, Room};
+use layout::Layout;
 
 // What a split answers: the number, and the sizes and strides that both views have; all 0 in a refusal.
 #[repr(C)]
@@ -330,6 +331,28 @@ fn v2_view(
     v2_chroma(aux_v, u, v, stride, rows, 2);
 }
 
+// The auxiliary view, in either layout.
+fn aux_view(
+    layout: Layout,
+    u: &[u8],
+    v: &[u8],
+    stride: usize,
+    rows: usize,
+    aux_y: &mut [u8],
+    aux_u: &mut [u8],
+    aux_v: &mut [u8],
+)
+    requires { ⌜ Whole (length (now u)) stride rows ⌝ }
+    requires { ⌜ Whole (length (now v)) stride rows ⌝ }
+    requires { ⌜ Room (length (now «aux_y»)) (length (now «aux_u»)) (length (now «aux_v»)) stride rows ⌝ }
+    ensures { λ _. ⌜ Written stride rows (auxSample layout stride (now (u .entry)) (now (v .entry))) (planes (now («aux_y» .entry)) (now («aux_u» .entry)) (now («aux_v» .entry))) (planes (now («aux_y» .exit)) (now («aux_u» .exit)) (now («aux_v» .exit))) ⌝ }
+{
+    match layout {
+        Layout::V1 => v1_view(u, v, stride, rows, aux_y, aux_u, aux_v),
+        Layout::V2 => v2_view(u, v, stride, rows, aux_y, aux_u, aux_v),
+    }
+}
+
 // Refusal 5: stride or rows is above 65,535.
 fn too_large(size: picture::Size) -> bool
     ensures { λ r. ⌜ r ≡ tooLarge size ⌝ }
@@ -415,7 +438,39 @@ fn split_answer(size: picture::Size, number: u32) -> Views
     }
 }
 
-// Both views of the picture, the auxiliary one in layout V1. Ports `Yuv444Frame::split`.
+// Both views of the picture, the auxiliary one in the layout that is asked for. Ports `Yuv444Frame::split`.
+pub fn split(
+    layout: Layout,
+    size: picture::Size,
+    y: &[u8],
+    u: &[u8],
+    v: &[u8],
+    main_y: &mut [u8],
+    main_u: &mut [u8],
+    main_v: &mut [u8],
+    aux_y: &mut [u8],
+    aux_u: &mut [u8],
+    aux_v: &mut [u8],
+) -> Views
+    ensures { λ r. ⌜ SplitEnds layout size (planes (now (y .entry)) (now (u .entry)) (now (v .entry))) (planes (now («main_y» .entry)) (now («main_u» .entry)) (now («main_v» .entry))) (planes (now («aux_y» .entry)) (now («aux_u» .entry)) (now («aux_v» .entry))) r (now («main_y» .exit) ∷ now («main_u» .exit) ∷ now («main_v» .exit) ∷ now («aux_y» .exit) ∷ now («aux_u» .exit) ∷ now («aux_v» .exit) ∷ []) ⌝ }
+{
+    let number = split_number(
+        size,
+        lengths(y, u, v),
+        lengths(main_y, main_u, main_v),
+        lengths(aux_y, aux_u, aux_v),
+    );
+    if number != 0 {
+        return split_answer(size, number);
+    }
+    let stride = picture::stride(size);
+    let rows = picture::rows(size);
+    main_view(y, u, v, stride, rows, main_y, main_u, main_v);
+    aux_view(layout, u, v, stride, rows, aux_y, aux_u, aux_v);
+    split_answer(size, 0)
+}
+
+// The layout V1.
 pub fn split_v1(
     size: picture::Size,
     y: &[u8],
@@ -430,23 +485,22 @@ pub fn split_v1(
 ) -> Views
     ensures { λ r. ⌜ SplitEnds V1 size (planes (now (y .entry)) (now (u .entry)) (now (v .entry))) (planes (now («main_y» .entry)) (now («main_u» .entry)) (now («main_v» .entry))) (planes (now («aux_y» .entry)) (now («aux_u» .entry)) (now («aux_v» .entry))) r (now («main_y» .exit) ∷ now («main_u» .exit) ∷ now («main_v» .exit) ∷ now («aux_y» .exit) ∷ now («aux_u» .exit) ∷ now («aux_v» .exit) ∷ []) ⌝ }
 {
-    let number = split_number(
+    split(
+        Layout::V1,
         size,
-        lengths(y, u, v),
-        lengths(main_y, main_u, main_v),
-        lengths(aux_y, aux_u, aux_v),
-    );
-    if number != 0 {
-        return split_answer(size, number);
-    }
-    let stride = picture::stride(size);
-    let rows = picture::rows(size);
-    main_view(y, u, v, stride, rows, main_y, main_u, main_v);
-    v1_view(u, v, stride, rows, aux_y, aux_u, aux_v);
-    split_answer(size, 0)
+        y,
+        u,
+        v,
+        main_y,
+        main_u,
+        main_v,
+        aux_y,
+        aux_u,
+        aux_v,
+    )
 }
 
-// The same with the auxiliary view in layout V2. Ports `Yuv444Frame::split`.
+// The layout V2.
 pub fn split_v2(
     size: picture::Size,
     y: &[u8],
@@ -461,18 +515,17 @@ pub fn split_v2(
 ) -> Views
     ensures { λ r. ⌜ SplitEnds V2 size (planes (now (y .entry)) (now (u .entry)) (now (v .entry))) (planes (now («main_y» .entry)) (now («main_u» .entry)) (now («main_v» .entry))) (planes (now («aux_y» .entry)) (now («aux_u» .entry)) (now («aux_v» .entry))) r (now («main_y» .exit) ∷ now («main_u» .exit) ∷ now («main_v» .exit) ∷ now («aux_y» .exit) ∷ now («aux_u» .exit) ∷ now («aux_v» .exit) ∷ []) ⌝ }
 {
-    let number = split_number(
+    split(
+        Layout::V2,
         size,
-        lengths(y, u, v),
-        lengths(main_y, main_u, main_v),
-        lengths(aux_y, aux_u, aux_v),
-    );
-    if number != 0 {
-        return split_answer(size, number);
-    }
-    let stride = picture::stride(size);
-    let rows = picture::rows(size);
-    main_view(y, u, v, stride, rows, main_y, main_u, main_v);
-    v2_view(u, v, stride, rows, aux_y, aux_u, aux_v);
-    split_answer(size, 0)
+        y,
+        u,
+        v,
+        main_y,
+        main_u,
+        main_v,
+        aux_y,
+        aux_u,
+        aux_v,
+    )
 }

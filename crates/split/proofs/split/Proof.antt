@@ -1,13 +1,12 @@
--- `split::split_v1` meets its contract: a number that is not 0 is answered with nothing written; else all that is lent is long enough,
+-- `split::split` meets its contract: a number that is not 0 is answered with nothing written; else all that is lent is long enough,
 -- and both views are written.
 -- Assumes nothing.
 use borrow.Author.Needs.{needs}
 use mathlib.Core.Path.{_≡_, sym, _∙_}
-use Rattle.layout.specs.declared.Layout.the-variants.{V1}
 use Rattle.split.specs.Split.{Planes, planes, lengthsOf, splitNumberOf}
 use Rattle.split.proofs.Calls.{Accepted, accepted, refused, done}
-use Rattle.split.proofs.split_v1.Statement.{statement}
-use Rattle.split.proofs.split_v1.Tie as tie
+use Rattle.split.proofs.split.Statement.{statement}
+use Rattle.split.proofs.split.Tie as tie
 
 abbrev start : tie.After-split-number → tie.Start
 start c = c .before .before .before .before .before .before .before .before .before .before .before .before .before .before .before .before .before .before .before
@@ -64,7 +63,7 @@ same-length-6 c = search needs
 returns : tie.Need-returns
 returns c =
     let k = c .before .before in
-    refused V1 _ (from k) (main k) (aux k) (numbered k) (c .before .if1 .taken) (c .split-answer .ensures)
+    refused _ _ (from k) (main k) (aux k) (numbered k) (c .before .if1 .taken) (c .split-answer .ensures)
 
 stride-requires : tie.Need-stride-requires
 stride-requires c κs = search needs
@@ -78,8 +77,8 @@ main-view-requires c κs =
     let f = fits (r .before .before) in
     rw (r .before .stride .ensures .0, r .rows .ensures .0) (f .y-whole, (f .u-whole, (f .v-whole, f .main-room)))
 
-v1-view-requires : tie.Need-v1-view-requires
-v1-view-requires c κs =
+aux-view-requires : tie.Need-aux-view-requires
+aux-view-requires c κs =
     let r = c .before .before .before .before .before .before .before .before .before .before .before .before .before in
     let f = fits (r .before .before) in
     rw (r .before .stride .ensures .0, r .rows .ensures .0) (f .u-whole, (f .v-whole, f .aux-room))
@@ -110,11 +109,11 @@ returns-2 c =
     let k = c .before in
     let r = k .before .before .before .before .before .before .before .before .before .before .before .before .before .before .before .before .before .before .before .before in
     let n = r .before .before .before in
-    done V1 _ (from n) (main n) (aux n) (numbered n) (r .before .before .if1 .left) (c .split-answer2 .ensures) (r .before .stride .ensures .0) (r .rows .ensures .0)
-    (k .before .before .before .before .before .before .before .before .before .before .before .before .before .before .before .before .main-view .ensures) (k .before .before .before .before .before .before .v1-view .ensures)
+    done _ _ (from n) (main n) (aux n) (numbered n) (r .before .before .if1 .left) (c .split-answer2 .ensures) (r .before .stride .ensures .0) (r .rows .ensures .0)
+    (k .before .before .before .before .before .before .before .before .before .before .before .before .before .before .before .before .main-view .ensures) (k .before .before .before .before .before .before .aux-view .ensures)
 
-pub split-v1-spec : {M : Type 1} → statement M
-split-v1-spec =
+pub split-spec : {M : Type 1} → statement M
+split-spec =
     tie.close
     (tie.spec
     lengths-requires
@@ -132,7 +131,7 @@ split-v1-spec =
     stride-requires
     rows-requires
     main-view-requires
-    v1-view-requires
+    aux-view-requires
     split-answer-requires-2
     same-length-7
     same-length-8
