@@ -17,7 +17,8 @@ use Rattle.layout.specs.declared.Layout.{Layout}
 use Rattle.split.specs.declared.PlaneLengths.{PlaneLengths}
 use Rattle.split.specs.declared.Views.{Views}
 use Rattle.split.specs.Split.{Planes, lengthsOf, mainSample, auxSample, tooLarge, viewShort, splitNumberOf, splitAnswerOf, splitBuffersOf, Written, SplitEnds}
-use Rattle.split.specs.Fits.{Whole, Room}
+use Rattle.split_views.specs.Fits.{Whole, Room}
+use Rattle.split.specs.Accepted.{Accepted}
 use Rattle.split.proofs.Exactly.{split-0-exactly}
 
 -- the tests of one view's planes, one after the other
@@ -51,14 +52,6 @@ module _ (z : Size) (n : PlaneLengths) where
       record { y-room = ltb-false _ _ (y .0); u-room = ltb-false _ _ (y .1); v-room = ltb-false _ _ (yu .1) }
 
 -- what 0 says
-pub record Accepted (z : Size) (p m a : PlaneLengths) : Type 0 where
-  pub y-whole : Whole (p .y) (strideOf z) (rowsOf z)
-  pub u-whole : Whole (p .u) (strideOf z) (rowsOf z)
-  pub v-whole : Whole (p .v) (strideOf z) (rowsOf z)
-  pub main-room : Room (m .y) (m .u) (m .v) (strideOf z) (rowsOf z)
-  pub aux-room : Room (a .y) (a .u) (a .v) (strideOf z) (rowsOf z)
-  pub small : tooLarge z ≡ false
-
 whole-plane : (z : Size) {n : ℕ} → rowsOf z * strideOf z ≤ n → Whole n (strideOf z) (rowsOf z)
 whole-plane z fits = record { fits = fits; wide = omega arith; high = omega arith }
 
@@ -83,15 +76,13 @@ module _ (t : Layout) (z : Size) (p m a : Planes) {n : ℕ} {r : Views} (is : n 
       let no : eqb (splitNumberOf z (lengthsOf p) (lengthsOf m) (lengthsOf a)) 0 ≡ false = ne-eqb _ 0 (λ e. some (is ∙ e)) in
       record { answer = answered ∙ ap (splitAnswerOf z) is; buffers = rw no refl }
 
-  pub done : {stride rows : ℕ} {m′ a′ : Planes} → n ≡ 0 → r ≡ splitAnswerOf z 0 → stride ≡ strideOf z → rows ≡ rowsOf z
-      → Written stride rows (mainSample stride p) m m′ → Written stride rows (auxSample t stride (p .u) (p .v)) a a′
+  pub done : {m′ a′ : Planes} → n ≡ 0 → r ≡ splitAnswerOf z 0
+      → Written (strideOf z) (rowsOf z) (mainSample (strideOf z) p) m m′ → Written (strideOf z) (rowsOf z) (auxSample t (strideOf z) (p .u) (p .v)) a a′
       → SplitEnds t z p m a r (m′ .y ∷ m′ .u ∷ m′ .v ∷ a′ .y ∷ a′ .u ∷ a′ .v ∷ [])
   unfolding splitBuffersOf
-  done none answered wide high main aux =
+  done none answered w x =
       let zero : splitNumberOf z (lengthsOf p) (lengthsOf m) (lengthsOf a) ≡ 0 = sym is ∙ none in
       let yes : eqb (splitNumberOf z (lengthsOf p) (lengthsOf m) (lengthsOf a)) 0 ≡ true = eq-eqb _ 0 zero in
-      let w = rw (wide, high) at main in
-      let x = rw (wide, high) at aux in
       record {
         answer = answered ∙ ap (splitAnswerOf z) (sym zero);
         buffers = rw yes (λ i. w .y-is i ∷ w .u-is i ∷ w .v-is i ∷ x .y-is i ∷ x .u-is i ∷ x .v-is i ∷ []);

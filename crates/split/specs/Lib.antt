@@ -1,4 +1,3 @@
--- What a split answers and writes, and what its writers ask of their callers.
+-- What a split answers and writes, and what an accepted one has.
 pub mod Split
-pub mod Fits
-pub mod Pairs
+pub mod Accepted

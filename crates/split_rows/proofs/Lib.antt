@@ -1,0 +1,2 @@
+-- The laws of a row that is lent to a writer and comes back.
+pub mod Rows

@@ -1,0 +1,118 @@
+-- `split_rows::seconds_row` meets its contract. The invariant: the bytes below `at` are written.
+-- Assumes nothing.
+use borrow.Author.Needs.{needs}
+use Prim.Native.Nat.{ℕ, _+_, _-_, _*_, _/_, _%_, _<_, _≤_}
+use native.Mathlib.Omega.{arith}
+use mathlib.Core.Path.{_≡_, refl, sym, ap, _∙_}
+use lib.Dec.{ltb}
+use lib.ListN.{length, getD, length-set}
+use borrow.Author.Tests.{le-ltb, lt-ltb}
+use Rattle.lent.specs.Paint.{paint, every}
+use Rattle.lent.specs.Samples.{sample}
+use Rattle.lent.proofs.Paint.{paint-none, paint-next, length-paint}
+use Rattle.lent.proofs.Samples.{part-sample}
+use Rattle.weave.proofs.Turns.{paint-every}
+use Rattle.split_rows.proofs.Rows.{chunk-next}
+use Rattle.split_rows.proofs.seconds_row.Statement.{statement}
+use Rattle.split_rows.proofs.seconds_row.Tie as tie
+
+abbrev Inv-loop : tie.InvT-loop
+Inv-loop out₀ plane stride row first line n at₀ out at = (n ≡ length out₀) × (at ≤ n) × (length out ≡ length out₀) × (out ≡ paint (λ k. ltb k at) (λ k. sample plane stride row (2 * k + first)) out₀)
+
+abbrev μ-loop : tie.MeasureT-loop
+μ-loop out₀ plane stride row first line n at₀ out at = n - at
+
+mul-line : tie.Need-mul-line Inv-loop μ-loop
+mul-line c = search needs
+
+loop-holds : tie.Need-loop-holds Inv-loop μ-loop
+loop-holds c = (refl, omega arith, refl, paint-none _ _ _ (λ k h. le-ltb k 0 (omega arith)))
+
+sub-least : tie.Need-sub-least Inv-loop μ-loop
+sub-least c = search needs
+
+least-requires : tie.Need-least-requires Inv-loop μ-loop
+least-requires c κs = search needs
+
+add-end : tie.Need-add-end Inv-loop μ-loop
+add-end c = search needs
+
+sub-seconds-part : tie.Need-sub-seconds-part Inv-loop μ-loop
+sub-seconds-part c = search needs
+
+part-seconds-part-start : tie.Need-part-seconds-part-start Inv-loop μ-loop
+part-seconds-part-start c = search needs
+
+part-seconds-part-end : tie.Need-part-seconds-part-end Inv-loop μ-loop
+part-seconds-part-end c = search needs
+
+mul-seconds-part : tie.Need-mul-seconds-part Inv-loop μ-loop
+mul-seconds-part c = search needs
+
+add-seconds-part : tie.Need-add-seconds-part Inv-loop μ-loop
+add-seconds-part c = search needs
+
+mul-seconds-part-2 : tie.Need-mul-seconds-part-2 Inv-loop μ-loop
+mul-seconds-part-2 c = search needs
+
+add-seconds-part-2 : tie.Need-add-seconds-part-2 Inv-loop μ-loop
+add-seconds-part-2 c = search needs
+
+sub-seconds-part-2 : tie.Need-sub-seconds-part-2 Inv-loop μ-loop
+sub-seconds-part-2 c = search needs
+
+part-seconds-part-start-2 : tie.Need-part-seconds-part-start-2 Inv-loop μ-loop
+part-seconds-part-start-2 c = search needs
+
+part-seconds-part-end-2 : tie.Need-part-seconds-part-end-2 Inv-loop μ-loop
+part-seconds-part-end-2 c = search needs
+
+seconds-part-requires : tie.Need-seconds-part-requires Inv-loop μ-loop
+seconds-part-requires c κs = search needs
+
+loop-less : tie.Need-loop-less Inv-loop μ-loop
+loop-less c = search needs
+
+loop-again : tie.Need-loop-again Inv-loop μ-loop
+loop-again c =
+    let p = c .before .before in
+    let l = p .before .before .before .before .before in
+    let s = l .before .before .before in
+    let a = s .args in
+    let end : ℕ = l .loop .at + p .before .before .before .least .result in
+    let next = chunk-next (a .out .now) (l .loop .out) _ (l .loop .at) end _ (λ k. sample (a .plane .now) (a .stride) (a .row) (2 * k + a .first)) (omega arith) (omega arith) (l .loop .inv .3) (p .seconds-part .ensures)
+    (λ j h. part-sample (a .plane .now) (a .stride) (a .row) (a .row * a .stride) (2 * l .loop .at) (2 * end) (2 * j + a .first) refl (omega (arith, s .pre .1)) ∙ ap (sample (a .plane .now) (a .stride) (a .row)) (omega arith)) in
+    (refl, omega arith, ap length next ∙ length-paint _ _ _, next)
+
+same-length : tie.Need-same-length Inv-loop μ-loop
+same-length c = omega arith
+
+returns : tie.Need-returns Inv-loop μ-loop
+returns c = let l = c .before in l .loop .inv .3 ∙ paint-every _ _ _ (l .loop .at) (omega arith) (λ k. refl)
+
+pub seconds-row-spec : {M : Type 1} → statement M
+seconds-row-spec =
+    tie.close
+    (tie.spec
+    Inv-loop
+    μ-loop
+    mul-line
+    loop-holds
+    sub-least
+    least-requires
+    add-end
+    sub-seconds-part
+    part-seconds-part-start
+    part-seconds-part-end
+    mul-seconds-part
+    add-seconds-part
+    mul-seconds-part-2
+    add-seconds-part-2
+    sub-seconds-part-2
+    part-seconds-part-start-2
+    part-seconds-part-end-2
+    seconds-part-requires
+    loop-less
+    loop-again
+    same-length
+    returns)

@@ -1,0 +1,115 @@
+// One row of a view of a split, read out of one row of the picture: whole, every second sample, or every fourth.
+//
+// Each writer promises every byte of the row that it is lent: the sample of the picture that belongs there. Every second sample goes
+// through pairs of bytes in a local array, which the compiler turns into vector code.
+ghost use mathlib.Core.Path.{_≡_};
+ghost use Prim.Native.Nat.{_+_, _*_, _/_, _%_, _<_, _≤_};
+ghost use lib.Dec.{ltb};
+ghost use lib.ListN.{length, getD};
+ghost use Rattle.lent.specs.Paint.{paint, every};
+ghost use Rattle.lent.specs.Samples.{sample};
+ghost use Rattle.split_rows.specs.Pairs.{pairOf};
+ghost use Rattle.split_rows.specs.Fits.{RowFits};
+
+// out becomes row `row` of the plane.
+pub fn copy_row(out: &mut [u8], plane: &[u8], stride: usize, row: usize)
+    requires { ⌜ RowFits (length (now out)) (length (now plane)) 1 stride row ⌝ }
+    ensures { λ _. ⌜ now (out .exit) ≡ paint every (λ c. sample (now (plane .entry)) stride row c) (now (out .entry)) ⌝ }
+{
+    let from = row * stride;
+    lent::copy(out, &plane[from..from + stride]);
+}
+
+// A byte, to count with.
+fn wide(b: u8) -> u16
+    ensures { λ r. ⌜ (r ≡ b) × (r < 256) ⌝ }
+{
+    b as u16
+}
+
+// Two bytes as one number: pairs[i] is src[2 i] + 256 src[2 i + 1], for i below n. The compiler makes a plain copy of it, where a loop
+// that reads every second byte would go byte by byte.
+fn pair(pairs: &mut [u16], src: &[u8], n: usize)
+    requires { ⌜ n ≤ length (now pairs) ⌝ }
+    requires { ⌜ 2 * n ≤ length (now src) ⌝ }
+    ensures { λ _. ⌜ now (pairs .exit) ≡ paint (λ k. ltb k n) (pairOf (now (src .entry))) (now (pairs .entry)) ⌝ }
+{
+    let mut i = 0;
+    while i < n {
+        pairs[i] = wide(src[2 * i]) + 256 * wide(src[2 * i + 1]);
+        i += 1;
+    }
+}
+
+// dst becomes the first bytes of the pairs.
+fn firsts(dst: &mut [u8], pairs: &[u16])
+    requires { ⌜ length (now dst) ≤ length (now pairs) ⌝ }
+    ensures { λ _. ⌜ now (dst .exit) ≡ paint every (λ k. getD (now (pairs .entry)) k 0 % 256) (now (dst .entry)) ⌝ }
+{
+    let n = dst.len();
+    let mut i = 0;
+    while i < n {
+        dst[i] = (pairs[i] % 256) as u8;
+        i += 1;
+    }
+}
+
+// dst becomes the second bytes of the pairs.
+fn lasts(dst: &mut [u8], pairs: &[u16])
+    requires { ⌜ length (now dst) ≤ length (now pairs) ⌝ }
+    ensures { λ _. ⌜ now (dst .exit) ≡ paint every (λ k. getD (now (pairs .entry)) k 0 / 256) (now (dst .entry)) ⌝ }
+{
+    let n = dst.len();
+    let mut i = 0;
+    while i < n {
+        dst[i] = (pairs[i] / 256) as u8;
+        i += 1;
+    }
+}
+
+// dst, at most 256 bytes, becomes every second byte of src, the first being src[first].
+fn seconds_part(dst: &mut [u8], src: &[u8], first: usize)
+    requires { ⌜ length (now dst) ≤ 256 ⌝ }
+    requires { ⌜ 2 * length (now dst) ≤ length (now src) ⌝ }
+    requires { ⌜ first < 2 ⌝ }
+    ensures { λ _. ⌜ now (dst .exit) ≡ paint every (λ k. getD (now (src .entry)) (2 * k + first) 0) (now (dst .entry)) ⌝ }
+{
+    let mut pairs = [0u16; 256];
+    let n = dst.len();
+    pair(&mut pairs, src, n);
+    if first == 0 {
+        firsts(dst, &pairs);
+        return;
+    }
+    lasts(dst, &pairs);
+}
+
+// out becomes every second sample of row `row` of the plane, from column `first` on.
+pub fn seconds_row(out: &mut [u8], plane: &[u8], stride: usize, row: usize, first: usize)
+    requires { ⌜ RowFits (length (now out)) (length (now plane)) 2 stride row ⌝ }
+    requires { ⌜ first < 2 ⌝ }
+    ensures { λ _. ⌜ now (out .exit) ≡ paint every (λ c. sample (now (plane .entry)) stride row (2 * c + first)) (now (out .entry)) ⌝ }
+{
+    let line = row * stride;
+    let n = out.len();
+    let mut at = 0;
+    while at < n {
+        let end = at + lent::least(n - at, 256);
+        seconds_part(
+            &mut out[at..end],
+            &plane[line + 2 * at..line + 2 * end],
+            first,
+        );
+        at = end;
+    }
+}
+
+// out becomes every fourth sample of row `row` of the plane, from column `first` on.
+pub fn fourths_row(out: &mut [u8], plane: &[u8], stride: usize, row: usize, first: usize)
+    requires { ⌜ RowFits (length (now out)) (length (now plane)) 4 stride row ⌝ }
+    requires { ⌜ first < 4 ⌝ }
+    ensures { λ _. ⌜ now (out .exit) ≡ paint every (λ c. sample (now (plane .entry)) stride row (4 * c + first)) (now (out .entry)) ⌝ }
+{
+    let line = row * stride;
+    weave::fourths_of(out, &plane[line..line + stride], first);
+}

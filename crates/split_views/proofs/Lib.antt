@@ -1,0 +1,2 @@
+-- What the auxiliary view holds, case by case.
+pub mod Spots
