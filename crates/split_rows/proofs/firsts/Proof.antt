@@ -29,7 +29,7 @@ shared-slice-read-dst : tie.Need-shared-slice-read-dst Inv-loop μ-loop
 shared-slice-read-dst c = search needs
 
 cast-dst : tie.Need-cast-dst Inv-loop μ-loop
-cast-dst c = omega arith
+cast-dst c = omega (arith, c .shared-slice-known .given (c .before .before .loop .i))
 
 slice-write-dst : tie.Need-slice-write-dst Inv-loop μ-loop
 slice-write-dst c = omega arith

@@ -30,7 +30,7 @@ copy-row-requires c κs =
     let s = c .before .before .before .before .before in
     let a = s .args in
     let block : ℕ = a .row - a .row % 16 in
-    record { exact = omega (arith, s .pre .0); reach = le-trans (row-in (a .stride) (block + 16) (block + 2 * (a .row % 16) + 1) (omega arith)) (s .pre .1 .0) }
+    record { exact = omega (arith, s .pre .0); reach = le-trans (row-in (a .stride) (block + 16) _ (omega arith)) (s .pre .1 .0) }
 
 same-length : tie.Need-same-length
 same-length c = search needs
@@ -55,7 +55,7 @@ copy-row-requires-2 c κs =
     let s = c .before .before .before .before .before in
     let a = s .args in
     let block : ℕ = a .row - a .row % 16 in
-    record { exact = omega (arith, s .pre .0); reach = le-trans (row-in (a .stride) (block + 16) (block + 2 * (a .row % 16 - 8) + 1) (omega arith)) (s .pre .1 .1) }
+    record { exact = omega (arith, s .pre .0); reach = le-trans (row-in (a .stride) (block + 16) _ (omega arith)) (s .pre .1 .1) }
 
 same-length-2 : tie.Need-same-length-2
 same-length-2 c = search needs
