@@ -1,0 +1,60 @@
+-- What the rules of the calls take over a list, in the words of demand 3: a test that does not look at the rectangle stands beside the list,
+-- and at a pixel of the picture the main view's luma is what lies inside. Assumes nothing.
+use Prim.Native.Nat.{ℕ, _<_, _≤_}
+use native.Mathlib.Omega.{arith}
+use mathlib.Core.Path.{_≡_}
+use mathlib.Core.Bool.{Bool, true, _&&_}
+use mathlib.Core.List.{List}
+use lib.Dec.{ltb}
+use Rattle.lent.proofs.Bools.{same-test, both, both-left, both-right}
+use Rattle.lent.proofs.Taken.{box-facts, box-holds}
+use Rattle.picture.specs.declared.Size.{Size}
+use Rattle.picture.specs.Sizes.{strideOf, rowsOf}
+use Rattle.view.specs.declared.View.{View}
+use Rattle.combine.specs.Rects.{Rule, rectAtOf, nth, taken, area}
+use Rattle.combine.specs.Main.{mainLuma}
+use Rattle.combine.proofs.Rects.{taken-facts, taken-holds, area-facts}
+use Rattle.combine.proofs.Main.{mainLuma-facts, mainLuma-holds}
+use Rattle.agree.specs.Agrees.{inRect, inside, widened}
+
+-- a rule is another one with a test beside it
+pub taken-beside : (rule other : Rule) (beside : Bool) (rects : List ℕ) (r c : ℕ)
+    → ((left top right bottom : ℕ) → rule left top right bottom r c ≡ (other left top right bottom r c && beside))
+    → taken rule rects r c ≡ (taken other rects r c && beside)
+unfolding nth
+taken-beside rule other beside rects r c is =
+    same-test (taken rule rects r c) (taken other rects r c && beside)
+    (λ e. let f = taken-facts rule rects r c e in
+    let q = rectAtOf rects (f .0) in
+    let g = rw (is (q .left) (q .top) (q .right) (q .bottom)) at (f .1 .1) in
+    let o = other (q .left) (q .top) (q .right) (q .bottom) r c in
+    both (taken other rects r c) beside (taken-holds other rects r c (f .0) (f .1 .0) (both-left o beside g)) (both-right o beside g))
+    (λ e. let f = taken-facts other rects r c (both-left (taken other rects r c) beside e) in
+    let q = rectAtOf rects (f .0) in
+    taken-holds rule rects r c (f .0) (f .1 .0)
+    (rw (is (q .left) (q .top) (q .right) (q .bottom)) (both (other (q .left) (q .top) (q .right) (q .bottom) r c) beside (f .1 .1) (both-right (taken other rects r c) beside e))))
+
+-- at a pixel of the picture, of a view that is as large, luma is taken exactly inside the rectangles
+pub luma-inside : (z : Size) (w : View) (rects : List ℕ) (r c : ℕ) → z .width ≤ w .width → z .height ≤ w .height → r < z .height → c < z .width
+    → taken (mainLuma z w) rects r c ≡ inside rects r c
+unfolding nth
+luma-inside z w rects r c wide high hr hc =
+    same-test (taken (mainLuma z w) rects r c) (inside rects r c)
+    (λ e. let f = taken-facts (mainLuma z w) rects r c e in
+    let q = rectAtOf rects (f .0) in
+    let g = mainLuma-facts z w (q .left) (q .top) (q .right) (q .bottom) r c (f .1 .1) in
+    taken-holds inRect rects r c (f .0) (f .1 .0) (box-holds _ _ _ _ r c (g .0) (omega arith) (g .3) (omega arith)))
+    (λ e. let f = taken-facts inRect rects r c e in
+    let q = rectAtOf rects (f .0) in
+    let g = box-facts (q .top) (q .bottom) (q .left) (q .right) r c (f .1 .1) in
+    taken-holds (mainLuma z w) rects r c (f .0) (f .1 .0)
+    (mainLuma-holds z w (q .left) (q .top) (q .right) (q .bottom) r c (g .0) (omega arith) (omega arith) (g .2) (omega arith)))
+
+-- a widened rectangle lies in the padded planes
+pub widened-within : (z : Size) (rects : List ℕ) (r c : ℕ) → widened z rects r c ≡ true → (r < rowsOf z) × (c < strideOf z)
+unfolding nth
+widened-within z rects r c e =
+    let f = taken-facts (area z) rects r c e in
+    let q = rectAtOf rects (f .0) in
+    let g = area-facts z (q .left) (q .top) (q .right) (q .bottom) r c (f .1 .1) in
+    (omega arith, omega arith)

@@ -1,0 +1,5 @@
+-- Demand 3: start at Agree.antt.
+pub mod Inside
+pub mod Agree
+pub mod Number
+pub mod Through

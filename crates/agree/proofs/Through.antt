@@ -1,0 +1,136 @@
+-- From the calls' definitions to demand 3: the views that a split leaves hold its samples, the planes that the apply calls leave are read at
+-- a row and column, and the steps of `Steps` follow.
+-- Assumes nothing.
+use Prim.Native.Nat.{ℕ, _+_, _*_, _/_, _<_, _≤_}
+use native.Mathlib.Omega.{arith}
+use mathlib.Core.Path.{_≡_, refl, sym, ap, _∙_}
+use mathlib.Core.Bool.{Bool, cond, _&&_, and-assoc}
+use mathlib.Core.List.{List}
+use lib.Dec.{ltb}
+use lib.ListN.{length}
+use Rattle.lent.specs.Paint.{painted, whole}
+use Rattle.lent.specs.Samples.{sample}
+use Rattle.lent.proofs.Painted.{painted-at, length-painted}
+use Rattle.picture.specs.declared.Size.{Size}
+use Rattle.picture.specs.Sizes.{strideOf, rowsOf}
+use Rattle.layout.specs.declared.Chroma.{Chroma}
+use Rattle.layout.specs.declared.Chroma.the-variants.{CU, CV}
+use Rattle.layout.specs.declared.Layout.{Layout}
+use Rattle.layout.specs.Maps.{Part, PY, PU, PV, place, partOf, maps}
+use Rattle.layout.specs.Exists.{side, fed}
+use Rattle.layout.proofs.Fed.{maps-fed}
+use Rattle.combine.specs.Rects.{taken, area}
+use Rattle.combine.specs.Main.{mainLuma, mainChroma, halved, chromaAfter}
+use Rattle.auxiliary_rows.specs.Rows.{partSample, auxSource}
+use Rattle.auxiliary.specs.Auxiliary.{auxIn, auxRule, auxAfter}
+use Rattle.split.specs.Split.{Planes, lengthsOf, mainSample, auxSample, viewAfter}
+use Rattle.agree.specs.Agrees.{pictureOf, widened, Agrees}
+use Rattle.agree.specs.Steps.{ViewSamples, gives, atSpot, mainView, auxView, Steps}
+use Rattle.agree.specs.Through.{threeOf, viewOf, mainViewOf, auxViewOf, withMain, withAux, throughOf, throughNumberOf}
+use Rattle.agree.proofs.Inside.{taken-beside}
+use Rattle.agree.proofs.Agree.{agrees, itself}
+use Rattle.agree.proofs.Number.{ViewLong, Fit, fit, through-plainly}
+
+-- a sample of a plane that was painted
+sample-painted : (w h : ℕ) (t : ℕ → ℕ → Bool) (s : ℕ → ℕ → ℕ) (xs : List ℕ) (r c : ℕ) → r < h → c < w → h * w ≤ length xs
+    → sample (painted w h t s xs) w r c ≡ cond (t r c) (s r c) (sample xs w r c)
+unfolding sample
+sample-painted w h t s xs r c hr hc fits = painted-at w h t s xs r c hr hc fits
+
+-- a view that a split has written holds what it was to hold
+written : (z : Size) (s : ViewSamples) (o : Planes) → ViewLong z (lengthsOf o) → (t : Part) (r c : ℕ) → r < side t (rowsOf z) → c < side t (strideOf z)
+    → let v = threeOf (viewAfter 0 z s o) in
+    partSample (viewOf z) (v .y) (v .u) (v .v) t r c ≡ s t r c
+written z s o long PY r c hr hc = sample-painted (strideOf z) (rowsOf z) whole (s PY) (o .y) r c hr hc (long .y-long)
+written z s o long PU r c hr hc = sample-painted (strideOf z / 2) (rowsOf z / 2) whole (s PU) (o .u) r c (omega arith) (omega arith) (long .u-long)
+written z s o long PV r c hr hc = sample-painted (strideOf z / 2) (rowsOf z / 2) whole (s PV) (o .v) r c (omega arith) (omega arith) (long .v-long)
+
+main-written : (z : Size) (p : Planes) (t : Part) (r c : ℕ) → mainSample (strideOf z) p t r c ≡ mainView (pictureOf z p) t r c
+main-written z p PY r c = refl
+main-written z p PU r c = refl
+main-written z p PV r c = refl
+
+aux-written : (t : Layout) (z : Size) (p : Planes) (q : Part) (r c : ℕ) → auxSample t (strideOf z) (p .u) (p .v) q r c ≡ auxView (maps t (strideOf z)) (pictureOf z p) q r c
+unfolding auxSample
+aux-written t z p q r c = refl
+
+-- what the chroma rules take over a list, with what does not look at the rectangle beside it
+main-taken : (z : Size) (rects : List ℕ) (r c : ℕ) → taken (mainChroma z (viewOf z)) rects r c ≡ (widened z rects r c && (ltb r (rowsOf z) && ltb c (strideOf z)))
+unfolding mainChroma
+main-taken z rects r c =
+    taken-beside (mainChroma z (viewOf z)) (area z) (ltb r (rowsOf z) && ltb c (strideOf z)) rects r c
+    (λ left top right bottom. and-assoc (area z left top right bottom r c) (ltb r (rowsOf z)) (ltb c (strideOf z)))
+
+aux-taken : (t : Layout) (z : Size) (rects : List ℕ) (r c : ℕ) → taken (auxRule t z (viewOf z)) rects r c ≡ (widened z rects r c && gives (maps t (strideOf z)) (viewOf z) r c)
+unfolding auxIn fed
+aux-taken t z rects r c = taken-beside (auxRule t z (viewOf z)) (area z) (gives (maps t (strideOf z)) (viewOf z) r c) rects r c (λ left top right bottom. refl)
+
+module _ (t : Layout) (z : Size) (rects : List ℕ) (p m a q : Planes) (f : Fit z rects p m a q) where
+  abbrev v : Planes
+  v = mainViewOf z p m
+
+  abbrev x : Planes
+  x = auxViewOf t z p a
+
+  abbrev mid : Planes
+  mid = withMain z rects v q
+
+  abbrev after : Planes
+  after = withAux t z rects x mid
+
+  abbrev main : ViewSamples
+  main = partSample (viewOf z) (v .y) (v .u) (v .v)
+
+  abbrev aux : ViewSamples
+  aux = partSample (viewOf z) (x .y) (x .u) (x .v)
+
+  -- a chroma plane, with the main view applied; then with the auxiliary view applied
+  main-plane : (k : Chroma) (samples plane : List ℕ) (r c : ℕ) → r < rowsOf z → c < strideOf z → rowsOf z * strideOf z ≤ length plane
+      → sample (chromaAfter z (viewOf z) rects samples plane) (strideOf z) r c
+      ≡ cond (widened z rects r c && (ltb r (rowsOf z) && ltb c (strideOf z))) (sample samples (strideOf z / 2) (r / 2) (c / 2)) (sample plane (strideOf z) r c)
+  unfolding halved
+  main-plane k samples plane r c hr hc fits =
+      sample-painted (strideOf z) (rowsOf z) (taken (mainChroma z (viewOf z)) rects) (halved samples (strideOf z / 2)) plane r c hr hc fits
+      ∙ ap (λ (b : Bool). cond b (sample samples (strideOf z / 2) (r / 2) (c / 2)) (sample plane (strideOf z) r c)) (main-taken z rects r c)
+
+  aux-plane : (k : Chroma) (plane : List ℕ) (r c : ℕ) → r < rowsOf z → c < strideOf z → rowsOf z * strideOf z ≤ length plane
+      → sample (auxAfter t k z (viewOf z) rects (x .y) (x .u) (x .v) plane) (strideOf z) r c
+      ≡ cond (widened z rects r c && gives (maps t (strideOf z)) (viewOf z) r c) (atSpot aux (maps t (strideOf z) .spot (place k r c))) (sample plane (strideOf z) r c)
+  unfolding auxSource
+  aux-plane k plane r c hr hc fits =
+      sample-painted (strideOf z) (rowsOf z) (taken (auxRule t z (viewOf z)) rects) (auxSource t k (viewOf z) (x .y) (x .u) (x .v)) plane r c hr hc fits
+      ∙ ap (λ (b : Bool). cond b (atSpot aux (maps t (strideOf z) .spot (place k r c))) (sample plane (strideOf z) r c)) (aux-taken t z rects r c)
+
+  main-chroma : (k : Chroma) (r c : ℕ) → r < rowsOf z → c < strideOf z
+      → pictureOf z mid .chroma k r c ≡ cond (widened z rects r c && (ltb r (rowsOf z) && ltb c (strideOf z))) (main (partOf k) (r / 2) (c / 2)) (pictureOf z q .chroma k r c)
+  main-chroma CU r c hr hc = main-plane CU (v .u) (q .u) r c hr hc (f .earlier .u-fits)
+  main-chroma CV r c hr hc = main-plane CV (v .v) (q .v) r c hr hc (f .earlier .v-fits)
+
+  aux-chroma : (k : Chroma) (r c : ℕ) → r < rowsOf z → c < strideOf z
+      → pictureOf z after .chroma k r c
+      ≡ cond (widened z rects r c && gives (maps t (strideOf z)) (viewOf z) r c) (atSpot aux (maps t (strideOf z) .spot (place k r c))) (pictureOf z mid .chroma k r c)
+  aux-chroma CU r c hr hc = aux-plane CU (mid .u) r c hr hc (rw length-painted (f .earlier .u-fits))
+  aux-chroma CV r c hr hc = aux-plane CV (mid .v) r c hr hc (rw length-painted (f .earlier .v-fits))
+
+  steps : Steps (maps t (strideOf z)) (viewOf z) z rects (pictureOf z p) (pictureOf z q) (pictureOf z mid) (pictureOf z after) main aux
+  steps = record {
+    main-is = λ s r c hr hc. written z (mainSample (strideOf z) p) m (f .main) s r c hr hc ∙ main-written z p s r c;
+    aux-is = λ s r c hr hc. written z (auxSample t (strideOf z) (p .u) (p .v)) a (f .aux) s r c hr hc ∙ aux-written t z p s r c;
+    main-luma = λ r c hr hc. sample-painted (strideOf z) (rowsOf z) (taken (mainLuma z (viewOf z)) rects) (sample (v .y) (strideOf z)) (q .y) r c hr hc (f .earlier .y-fits);
+    main-chroma = main-chroma;
+    aux-luma = λ r c hr hc. refl;
+    aux-chroma = aux-chroma;
+  }
+
+  -- demand 3, of the calls' definitions, in either layout
+  pub steps-agree : Agrees z rects (pictureOf z p) (pictureOf z q) (pictureOf z (throughOf t z rects p m a q))
+  unfolding throughOf
+  steps-agree =
+      agrees (maps t (strideOf z)) (viewOf z) z rects (pictureOf z p) (pictureOf z p) (pictureOf z q) (pictureOf z mid) (pictureOf z after) main aux
+      (maps-fed t (strideOf z) (rowsOf z) (omega arith) (omega arith)) (omega arith) (omega arith) (itself z (pictureOf z p)) steps
+
+-- ---- the theorem
+
+pub through-agrees : (t : Layout) (z : Size) (rects : List ℕ) (p m a q : Planes) → throughNumberOf t z rects p m a q ≡ 0
+    → Agrees z rects (pictureOf z p) (pictureOf z q) (pictureOf z (throughOf t z rects p m a q))
+through-agrees t z rects p m a q none = steps-agree t z rects p m a q (fit z rects p m a q (sym (through-plainly t z rects p m a q) ∙ none))

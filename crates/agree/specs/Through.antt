@@ -1,0 +1,90 @@
+-- Split, apply the main view, apply the auxiliary view: the definitions that those calls' contracts cite, one after the other.
+--
+--   buffersIn p              three buffers as a list; `threeOf` leads back
+--   viewOf z                 the size of both views of a split: stride by rows, luma stride the stride, chroma stride half of it
+--   mainViewOf z p m         the buffers m of the main view, once a split of the picture p has written them
+--   auxViewOf t z p a        the same of the auxiliary view, in the layout t
+--   withMain z rects v q     the picture q, once the main view v is applied over the list
+--   withAux t z rects v q    the picture q, once the auxiliary view v is applied over the list
+--   throughOf t z rects p m a q      the earlier picture q after the three steps
+--   firstOf n k              n where it is a refusal, else k
+--   applyNumberOn z rects v q        the number of an apply call of the view v, of a split's size, onto the picture q
+--   throughNumberOf t z rects p m a q      the first number that a step would give, 0 where none would refuse
+--   earlierNumberOf z n nr   what the apply calls can refuse: 1 and 7, since a split's views are never narrow or short (`through-plainly`)
+--   ThroughEnds ...          how the three steps end: the answer r, the views' buffers m′ and a′, and x, which the earlier picture has become.
+--                            Number and every lent byte are equations, and 0 comes with demand 3
+use Prim.Native.Nat.{ℕ, _/_}
+use mathlib.Core.Path.{_≡_}
+use mathlib.Core.Bool.{cond}
+use mathlib.Core.List.{List, [], _∷_, _++_}
+use lib.Dec.{eqb}
+use lib.ListN.{length}
+use Rattle.lent.specs.declared.Answer.{Answer}
+use Rattle.lent.specs.Outcome.{Outcome, answerOf, lentAfter}
+use Rattle.lent.specs.Refusal.{refusal}
+use Rattle.picture.specs.declared.Size.{Size}
+use Rattle.picture.specs.Sizes.{strideOf, rowsOf, planesShort}
+use Rattle.view.specs.declared.View.{View}
+use Rattle.layout.specs.declared.Layout.{Layout}
+use Rattle.combine.specs.Number.{notFours}
+use Rattle.combine.specs.Main.{mainNumberOf, mainBuffersOf}
+use Rattle.auxiliary.specs.Auxiliary.{auxBuffersOf}
+use Rattle.split.specs.declared.PlaneLengths.{PlaneLengths}
+use Rattle.split.specs.Split.{Planes, planes, lengthsOf, mainSample, auxSample, viewAfter, splitNumberOf}
+use Rattle.agree.specs.Agrees.{pictureOf, Agrees}
+
+abbrev pub buffersIn : Planes → List (List ℕ)
+buffersIn p = p .y ∷ p .u ∷ p .v ∷ []
+
+abbrev pub threeOf : List (List ℕ) → Planes
+threeOf [] = planes [] [] []
+threeOf (y ∷ []) = planes y [] []
+threeOf (y ∷ u ∷ []) = planes y u []
+threeOf (y ∷ u ∷ v ∷ rest) = planes y u v
+
+abbrev pub viewOf : Size → View
+viewOf z = record { width = strideOf z; height = rowsOf z; «luma_stride» = strideOf z; «chroma_stride» = strideOf z / 2 }
+
+-- what each call leaves where it answers 0
+abbrev pub mainViewOf : Size → Planes → Planes → Planes
+mainViewOf z p m = threeOf (viewAfter 0 z (mainSample (strideOf z) p) m)
+
+abbrev pub auxViewOf : Layout → Size → Planes → Planes → Planes
+auxViewOf t z p a = threeOf (viewAfter 0 z (auxSample t (strideOf z) (p .u) (p .v)) a)
+
+abbrev pub withMain : Size → List ℕ → Planes → Planes → Planes
+withMain z rects v q = threeOf (mainBuffersOf 0 z (viewOf z) rects (v .y) (v .u) (v .v) (q .y) (q .u) (q .v))
+
+abbrev pub withAux : Layout → Size → List ℕ → Planes → Planes → Planes
+withAux t z rects v q = threeOf (auxBuffersOf 0 t z (viewOf z) rects (v .y) (v .u) (v .v) (q .y) (q .u) (q .v))
+
+unfoldable pub throughOf : Layout → Size → List ℕ → Planes → Planes → Planes → Planes → Planes
+throughOf t z rects p m a q = withAux t z rects (auxViewOf t z p a) (withMain z rects (mainViewOf z p m) q)
+
+abbrev pub firstOf : ℕ → ℕ → ℕ
+firstOf n k = cond (eqb n 0) k n
+
+abbrev pub applyNumberOn : Size → List ℕ → Planes → Planes → ℕ
+applyNumberOn z rects v q = mainNumberOf z (viewOf z) rects (v .y) (v .u) (v .v) (q .y) (q .u) (q .v)
+
+unfoldable pub throughNumberOf : Layout → Size → List ℕ → Planes → Planes → Planes → Planes → ℕ
+throughNumberOf t z rects p m a q =
+    firstOf (splitNumberOf z (lengthsOf p) (lengthsOf m) (lengthsOf a))
+    (firstOf (applyNumberOn z rects (mainViewOf z p m) q)
+    (applyNumberOn z rects (auxViewOf t z p a) (withMain z rects (mainViewOf z p m) q)))
+
+unfoldable pub earlierNumberOf : Size → PlaneLengths → ℕ → ℕ
+earlierNumberOf z n nr = refusal ((planesShort z (n .y) (n .u) (n .v), 1) ∷ (notFours nr, 7) ∷ [])
+
+-- three buffers after a call that answered n
+abbrev pub planesAfter : ℕ → Planes → Planes → List (List ℕ)
+planesAfter n old new = lentAfter n (old .y) (new .y) ∷ lentAfter n (old .u) (new .u) ∷ lentAfter n (old .v) (new .v) ∷ []
+
+unfoldable pub throughBuffersOf : ℕ → Layout → Size → List ℕ → Planes → Planes → Planes → Planes → List (List ℕ)
+throughBuffersOf n t z rects p m a q =
+    planesAfter n m (mainViewOf z p m) ++ (planesAfter n a (auxViewOf t z p a) ++ planesAfter n q (throughOf t z rects p m a q))
+
+pub record ThroughEnds (t : Layout) (z : Size) (rects : List ℕ) (p m a q : Planes) (r : Answer) (m′ a′ x : Planes) : Type 0 where
+  pub ends : Outcome (answerOf (throughNumberOf t z rects p m a q) 0) (throughBuffersOf (throughNumberOf t z rects p m a q) t z rects p m a q)
+      r (buffersIn m′ ++ (buffersIn a′ ++ buffersIn x))
+  pub agrees : r .number ≡ 0 → Agrees z rects (pictureOf z p) (pictureOf z q) (pictureOf z x)
