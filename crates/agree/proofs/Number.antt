@@ -1,14 +1,15 @@
 -- The first number that a step would give: a split's, else 1 or 7 for the earlier picture. 3 and 4 cannot arise, since the views of a split
 -- are as wide as their strides and their planes are whole. No step changes a length.
 -- Assumes nothing.
-use Prim.Native.Nat.{ℕ, _/_, _*_, _≤_}
+use Prim.Native.Nat.{ℕ, _/_, _%_}
 use native.Mathlib.Omega.{arith}
 use mathlib.Core.Path.{_≡_, refl, sym, ap, _∙_}
-use mathlib.Core.Bool.{Bool, true, false, cond, _||_, true≢false}
+use mathlib.Core.Bool.{Bool, true, false, cond, _||_, not, Bool·not-not, true≢false}
+use mathlib.Core.Logic.{_↔_, Iff·rfl, Iff·trans, Iff·and, and-true}
 use mathlib.Core.List.{List, [], _∷_}
 use lib.Dec.{eqb, ltb}
 use lib.ListN.{length}
-use borrow.Author.Tests.{eq-eqb, eqb-true, ltb-false, le-ltb}
+use borrow.Author.Tests.{eq-eqb, eqb-true, le-ltb}
 use Rattle.lent.specs.Refusal.{refusal}
 use Rattle.lent.specs.Sizes.{tooShort, halfUp}
 use Rattle.lent.proofs.Bools.{cond-same}
@@ -18,14 +19,16 @@ use Rattle.lent.proofs.Refusal.{refusal-none}
 use Rattle.picture.specs.declared.Size.{Size}
 use Rattle.picture.specs.Sizes.{strideOf, rowsOf, planesShort, PlanesFit}
 use Rattle.picture.proofs.Sizes.{planes-fit}
-use Rattle.view.specs.View.{narrow, planeShort, ViewFits}
+use Rattle.view.specs.View.{narrow, planeShort}
 use Rattle.view.proofs.Exactly.{narrow-none, planeShort-none}
 use Rattle.layout.specs.declared.Layout.{Layout}
 use Rattle.combine.specs.Number.{notFours, applyNumberOf}
 use Rattle.split.specs.declared.PlaneLengths.{PlaneLengths}
+use Rattle.split.specs.Fits.{Room}
 use Rattle.split.specs.Split.{Planes, lengthsOf, viewShort, splitNumberOf}
-use Rattle.split.proofs.Exactly.{split-0-exactly}
-use Rattle.agree.specs.Through.{viewOf, mainViewOf, auxViewOf, withMain, firstOf, applyNumberOn, throughNumberOf, earlierNumberOf}
+use Rattle.split.proofs.Calls.{view-room}
+use Rattle.split.proofs.Exactly.{split-0-exactly, small-exactly}
+use Rattle.agree.specs.Through.{viewOf, mainViewOf, auxViewOf, withMain, firstOf, applyNumberOn, throughNumberOf, earlierNumberOf, Lent}
 
 -- ---- the first of two numbers
 
@@ -82,38 +85,61 @@ module _ (t : Layout) (z : Size) (rects : List ℕ) (p m a q : Planes) where
       (λ i. firstOf (main i) ((aux ∙ ap (λ (n : PlaneLengths). earlierNumberOf z n (length rects)) (with-main-lengths z rects (mainViewOf z p m) q)) i))
       ∙ cond-same (eqb (earlierNumberOf z (lengthsOf q) (length rects)) 0) _)
 
--- ---- what 0 says of the lengths
+-- ---- 0, exactly when
 
-pub record ViewLong (z : Size) (n : PlaneLengths) : Type 0 where
-  pub y-long : rowsOf z * strideOf z ≤ n .y
-  pub u-long : rowsOf z / 2 * (strideOf z / 2) ≤ n .u
-  pub v-long : rowsOf z / 2 * (strideOf z / 2) ≤ n .v
+planes-long : (z : Size) (ny nu nv : ℕ) → PlanesFit z ny nu nv → planesShort z ny nu nv ≡ false
+unfolding planesShort
+planes-long z ny nu nv f =
+    nor (tooShort (strideOf z) (rowsOf z) ny || tooShort (strideOf z) (rowsOf z) nu) _ .1
+    (nor (tooShort (strideOf z) (rowsOf z) ny) _ .1 (le-ltb ny _ (f .y-fits), le-ltb nu _ (f .u-fits)), le-ltb nv _ (f .v-fits))
 
-view-long : (z : Size) (n : PlaneLengths) → viewShort z n ≡ false → ViewLong z n
+view-long : (z : Size) (n : PlaneLengths) → Room (n .y) (n .u) (n .v) (strideOf z) (rowsOf z) → viewShort z n ≡ false
 unfolding viewShort
-view-long z n e =
-    let yu = nor (tooShort (strideOf z) (rowsOf z) (n .y) || tooShort (strideOf z / 2) (rowsOf z / 2) (n .u)) _ .0 e in
-    let y = nor (tooShort (strideOf z) (rowsOf z) (n .y)) _ .0 (yu .0) in
-    record { y-long = ltb-false _ _ (y .0); u-long = ltb-false _ _ (y .1); v-long = ltb-false _ _ (yu .1) }
+view-long z n f =
+    nor (tooShort (strideOf z) (rowsOf z) (n .y) || tooShort (strideOf z / 2) (rowsOf z / 2) (n .u)) _ .1
+    (nor (tooShort (strideOf z) (rowsOf z) (n .y)) _ .1 (le-ltb (n .y) _ (f .y-room), le-ltb (n .u) _ (f .u-room)), le-ltb (n .v) _ (f .v-room))
 
-pub record Fit (z : Size) (rects : List ℕ) (p m a q : Planes) : Type 0 where
-  pub split-none : splitNumberOf z (lengthsOf p) (lengthsOf m) (lengthsOf a) ≡ 0
-  pub earlier-none : earlierNumberOf z (lengthsOf q) (length rects) ≡ 0
-  pub main : ViewLong z (lengthsOf m)
-  pub aux : ViewLong z (lengthsOf a)
-  pub earlier : PlanesFit z (length (q .y)) (length (q .u)) (length (q .v))
+-- a list in fours
+fours-exactly : (nr : ℕ) → (notFours nr ≡ false) ↔ (nr % 4 ≡ 0)
+fours-exactly nr = (
+  λ e. eqb-true (nr % 4) 0 (sym (Bool·not-not (eqb (nr % 4) 0)) ∙ ap not e),
+  λ e. ap not (eq-eqb (nr % 4) 0 e),
+)
 
-pub fit : (z : Size) (rects : List ℕ) (p m a q : Planes)
-    → firstOf (splitNumberOf z (lengthsOf p) (lengthsOf m) (lengthsOf a)) (earlierNumberOf z (lengthsOf q) (length rects)) ≡ 0 → Fit z rects p m a q
+earlier-0-exactly : (z : Size) (n : PlaneLengths) (nr : ℕ) → (earlierNumberOf z n nr ≡ 0) ↔ ((planesShort z (n .y) (n .u) (n .v) ≡ false) × (notFours nr ≡ false))
 unfolding earlierNumberOf
-fit z rects p m a q none =
-    let zero = first-zero (splitNumberOf z (lengthsOf p) (lengthsOf m) (lengthsOf a)) _ none in
-    let long = nor (viewShort z (lengthsOf m)) _ .0 (split-0-exactly z (lengthsOf p) (lengthsOf m) (lengthsOf a) .0 (zero .0) .1 .1) in
-    let short = planesShort z (length (q .y)) (length (q .u)) (length (q .v)) in
-    record {
-      split-none = zero .0;
-      earlier-none = zero .1;
-      main = view-long z (lengthsOf m) (long .0);
-      aux = view-long z (lengthsOf a) (long .1);
-      earlier = planes-fit z _ _ _ (refusal-none ((short, 1) ∷ (notFours (length rects), 7) ∷ []) tt .0 (zero .1) .0);
-    }
+earlier-0-exactly z n nr = Iff·trans (refusal-none ((planesShort z (n .y) (n .u) (n .v), 1) ∷ (notFours nr, 7) ∷ []) tt) (Iff·and Iff·rfl and-true)
+
+module _ (z : Size) (rects : List ℕ) (p m a q : Planes) where
+  abbrev split-number : ℕ
+  split-number = splitNumberOf z (lengthsOf p) (lengthsOf m) (lengthsOf a)
+
+  pub lent : firstOf split-number (earlierNumberOf z (lengthsOf q) (length rects)) ≡ 0 → Lent z rects p m a q
+  lent none =
+      let zero = first-zero split-number _ none in
+      let f = split-0-exactly z (lengthsOf p) (lengthsOf m) (lengthsOf a) .0 (zero .0) in
+      let small = small-exactly z .0 (f .1 .0) in
+      let long = nor (viewShort z (lengthsOf m)) _ .0 (f .1 .1) in
+      let e = earlier-0-exactly z (lengthsOf q) (length rects) .0 (zero .1) in
+      record {
+        wide = small .0;
+        high = small .1;
+        fours = fours-exactly (length rects) .0 (e .1);
+        picture = planes-fit z _ _ _ (f .0);
+        main = view-room z (lengthsOf m) (long .0);
+        aux = view-room z (lengthsOf a) (long .1);
+        earlier = planes-fit z _ _ _ (e .0);
+      }
+
+  accepted : Lent z rects p m a q → (split-number ≡ 0) × (earlierNumberOf z (lengthsOf q) (length rects) ≡ 0)
+  accepted l = (
+    split-0-exactly z (lengthsOf p) (lengthsOf m) (lengthsOf a) .1
+        (planes-long z _ _ _ (l .picture), (small-exactly z .1 (l .wide, l .high), nor (viewShort z (lengthsOf m)) _ .1 (view-long z (lengthsOf m) (l .main), view-long z (lengthsOf a) (l .aux)))),
+    earlier-0-exactly z (lengthsOf q) (length rects) .1 (planes-long z _ _ _ (l .earlier), fours-exactly (length rects) .1 (l .fours)),
+  )
+
+  pub through-0-exactly : (t : Layout) → (throughNumberOf t z rects p m a q ≡ 0) ↔ Lent z rects p m a q
+  through-0-exactly t = (
+    λ e. lent (sym (through-plainly t z rects p m a q) ∙ e),
+    λ l. let zero = accepted l in through-plainly t z rects p m a q ∙ (λ i. firstOf (zero .0 i) (zero .1 i)),
+  )

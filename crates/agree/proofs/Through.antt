@@ -23,13 +23,14 @@ use Rattle.combine.specs.Rects.{taken, area}
 use Rattle.combine.specs.Main.{mainLuma, mainChroma, halved, chromaAfter}
 use Rattle.auxiliary_rows.specs.Rows.{partSample, auxSource}
 use Rattle.auxiliary.specs.Auxiliary.{auxIn, auxRule, auxAfter}
+use Rattle.split.specs.Fits.{Room}
 use Rattle.split.specs.Split.{Planes, lengthsOf, mainSample, auxSample, viewAfter}
 use Rattle.agree.specs.Agrees.{pictureOf, widened, Agrees}
 use Rattle.agree.specs.Steps.{ViewSamples, gives, atSpot, mainView, auxView, Steps}
-use Rattle.agree.specs.Through.{threeOf, viewOf, mainViewOf, auxViewOf, withMain, withAux, throughOf, throughNumberOf}
+use Rattle.agree.specs.Through.{threeOf, viewOf, mainViewOf, auxViewOf, withMain, withAux, throughOf, throughNumberOf, Lent}
 use Rattle.agree.proofs.Inside.{taken-beside}
 use Rattle.agree.proofs.Agree.{agrees, itself}
-use Rattle.agree.proofs.Number.{ViewLong, Fit, fit, through-plainly}
+use Rattle.agree.proofs.Number.{through-0-exactly}
 
 -- a sample of a plane that was painted
 sample-painted : (w h : ℕ) (t : ℕ → ℕ → Bool) (s : ℕ → ℕ → ℕ) (xs : List ℕ) (r c : ℕ) → r < h → c < w → h * w ≤ length xs
@@ -38,12 +39,12 @@ unfolding sample
 sample-painted w h t s xs r c hr hc fits = painted-at w h t s xs r c hr hc fits
 
 -- a view that a split has written holds what it was to hold
-written : (z : Size) (s : ViewSamples) (o : Planes) → ViewLong z (lengthsOf o) → (t : Part) (r c : ℕ) → r < side t (rowsOf z) → c < side t (strideOf z)
+written : (z : Size) (s : ViewSamples) (o : Planes) → Room (length (o .y)) (length (o .u)) (length (o .v)) (strideOf z) (rowsOf z) → (t : Part) (r c : ℕ) → r < side t (rowsOf z) → c < side t (strideOf z)
     → let v = threeOf (viewAfter 0 z s o) in
     partSample (viewOf z) (v .y) (v .u) (v .v) t r c ≡ s t r c
-written z s o long PY r c hr hc = sample-painted (strideOf z) (rowsOf z) whole (s PY) (o .y) r c hr hc (long .y-long)
-written z s o long PU r c hr hc = sample-painted (strideOf z / 2) (rowsOf z / 2) whole (s PU) (o .u) r c (omega arith) (omega arith) (long .u-long)
-written z s o long PV r c hr hc = sample-painted (strideOf z / 2) (rowsOf z / 2) whole (s PV) (o .v) r c (omega arith) (omega arith) (long .v-long)
+written z s o long PY r c hr hc = sample-painted (strideOf z) (rowsOf z) whole (s PY) (o .y) r c hr hc (long .y-room)
+written z s o long PU r c hr hc = sample-painted (strideOf z / 2) (rowsOf z / 2) whole (s PU) (o .u) r c (omega arith) (omega arith) (long .u-room)
+written z s o long PV r c hr hc = sample-painted (strideOf z / 2) (rowsOf z / 2) whole (s PV) (o .v) r c (omega arith) (omega arith) (long .v-room)
 
 main-written : (z : Size) (p : Planes) (t : Part) (r c : ℕ) → mainSample (strideOf z) p t r c ≡ mainView (pictureOf z p) t r c
 main-written z p PY r c = refl
@@ -65,7 +66,7 @@ aux-taken : (t : Layout) (z : Size) (rects : List ℕ) (r c : ℕ) → taken (au
 unfolding auxIn fed
 aux-taken t z rects r c = taken-beside (auxRule t z (viewOf z)) (area z) (gives (maps t (strideOf z)) (viewOf z) r c) rects r c (λ left top right bottom. refl)
 
-module _ (t : Layout) (z : Size) (rects : List ℕ) (p m a q : Planes) (f : Fit z rects p m a q) where
+module _ (t : Layout) (z : Size) (rects : List ℕ) (p m a q : Planes) (f : Lent z rects p m a q) where
   abbrev v : Planes
   v = mainViewOf z p m
 
@@ -123,14 +124,12 @@ module _ (t : Layout) (z : Size) (rects : List ℕ) (p m a q : Planes) (f : Fit 
   }
 
   -- demand 3, of the calls' definitions, in either layout
-  pub steps-agree : Agrees z rects (pictureOf z p) (pictureOf z q) (pictureOf z (throughOf t z rects p m a q))
+  pub lent-agrees : Agrees z rects (pictureOf z p) (pictureOf z q) (pictureOf z (throughOf t z rects p m a q))
   unfolding throughOf
-  steps-agree =
+  lent-agrees =
       agrees (maps t (strideOf z)) (viewOf z) z rects (pictureOf z p) (pictureOf z p) (pictureOf z q) (pictureOf z mid) (pictureOf z after) main aux
       (maps-fed t (strideOf z) (rowsOf z) (omega arith) (omega arith)) (omega arith) (omega arith) (itself z (pictureOf z p)) steps
 
--- ---- the theorem
-
 pub through-agrees : (t : Layout) (z : Size) (rects : List ℕ) (p m a q : Planes) → throughNumberOf t z rects p m a q ≡ 0
     → Agrees z rects (pictureOf z p) (pictureOf z q) (pictureOf z (throughOf t z rects p m a q))
-through-agrees t z rects p m a q none = steps-agree t z rects p m a q (fit z rects p m a q (sym (through-plainly t z rects p m a q) ∙ none))
+through-agrees t z rects p m a q none = lent-agrees t z rects p m a q (through-0-exactly z rects p m a q t .0 none)

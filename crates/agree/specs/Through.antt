@@ -11,9 +11,12 @@
 --   applyNumberOn z rects v q        the number of an apply call of the view v, of a split's size, onto the picture q
 --   throughNumberOf t z rects p m a q      the first number that a step would give, 0 where none would refuse
 --   earlierNumberOf z n nr   what the apply calls can refuse: 1 and 7, since a split's views are never narrow or short (`through-plainly`)
+--   Lent z rects p m a q     what 0 says (`through-0-exactly`): sides of 0 to 65,520, a list in fours, and buffers that are long enough
+--   planesAfter n old new    three buffers after a call that answered n
+--   throughBuffersOf n t z rects p m a q      the views' buffers and the earlier picture after the three steps, the number being n
 --   ThroughEnds ...          how the three steps end: the answer r, the views' buffers m′ and a′, and x, which the earlier picture has become.
 --                            Number and every lent byte are equations, and 0 comes with demand 3
-use Prim.Native.Nat.{ℕ, _/_}
+use Prim.Native.Nat.{ℕ, _/_, _%_, _≤_}
 use mathlib.Core.Path.{_≡_}
 use mathlib.Core.Bool.{cond}
 use mathlib.Core.List.{List, [], _∷_, _++_}
@@ -23,13 +26,14 @@ use Rattle.lent.specs.declared.Answer.{Answer}
 use Rattle.lent.specs.Outcome.{Outcome, answerOf, lentAfter}
 use Rattle.lent.specs.Refusal.{refusal}
 use Rattle.picture.specs.declared.Size.{Size}
-use Rattle.picture.specs.Sizes.{strideOf, rowsOf, planesShort}
+use Rattle.picture.specs.Sizes.{strideOf, rowsOf, planesShort, PlanesFit}
 use Rattle.view.specs.declared.View.{View}
 use Rattle.layout.specs.declared.Layout.{Layout}
 use Rattle.combine.specs.Number.{notFours}
 use Rattle.combine.specs.Main.{mainNumberOf, mainBuffersOf}
 use Rattle.auxiliary.specs.Auxiliary.{auxBuffersOf}
 use Rattle.split.specs.declared.PlaneLengths.{PlaneLengths}
+use Rattle.split.specs.Fits.{Room}
 use Rattle.split.specs.Split.{Planes, planes, lengthsOf, mainSample, auxSample, viewAfter, splitNumberOf}
 use Rattle.agree.specs.Agrees.{pictureOf, Agrees}
 
@@ -76,7 +80,15 @@ throughNumberOf t z rects p m a q =
 unfoldable pub earlierNumberOf : Size → PlaneLengths → ℕ → ℕ
 earlierNumberOf z n nr = refusal ((planesShort z (n .y) (n .u) (n .v), 1) ∷ (notFours nr, 7) ∷ [])
 
--- three buffers after a call that answered n
+pub record Lent (z : Size) (rects : List ℕ) (p m a q : Planes) : Type 0 where
+  pub wide : z .width ≤ 65520
+  pub high : z .height ≤ 65520
+  pub fours : length rects % 4 ≡ 0
+  pub picture : PlanesFit z (length (p .y)) (length (p .u)) (length (p .v))
+  pub main : Room (length (m .y)) (length (m .u)) (length (m .v)) (strideOf z) (rowsOf z)
+  pub aux : Room (length (a .y)) (length (a .u)) (length (a .v)) (strideOf z) (rowsOf z)
+  pub earlier : PlanesFit z (length (q .y)) (length (q .u)) (length (q .v))
+
 abbrev pub planesAfter : ℕ → Planes → Planes → List (List ℕ)
 planesAfter n old new = lentAfter n (old .y) (new .y) ∷ lentAfter n (old .u) (new .u) ∷ lentAfter n (old .v) (new .v) ∷ []
 
