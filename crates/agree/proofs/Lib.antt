@@ -2,4 +2,5 @@
 pub mod Inside
 pub mod Agree
 pub mod Number
-pub mod Through
+pub mod Walk
+pub mod Ends

@@ -9,10 +9,10 @@ use mathlib.Core.Logic.{_↔_, Iff·rfl, Iff·trans, Iff·and, and-true}
 use mathlib.Core.List.{List, [], _∷_}
 use lib.Dec.{eqb, ltb}
 use lib.ListN.{length}
-use borrow.Author.Tests.{eq-eqb, eqb-true, le-ltb}
+use borrow.Author.Tests.{eq-eqb, ne-eqb, eqb-true, le-ltb}
 use Rattle.lent.specs.Refusal.{refusal}
 use Rattle.lent.specs.Sizes.{tooShort, halfUp}
-use Rattle.lent.proofs.Bools.{cond-same}
+use Rattle.lent.proofs.Bools.{cond-same, cond-true, cond-false}
 use Rattle.lent.proofs.Exactly.{nor}
 use Rattle.lent.proofs.Painted.{length-painted}
 use Rattle.lent.proofs.Refusal.{refusal-none}
@@ -45,6 +45,13 @@ first-zero n k e = go (eqb n 0) refl
     go : (b : Bool) → eqb n 0 ≡ b → (n ≡ 0) × (k ≡ 0)
     go true t = (eqb-true n 0 t, rw t at e)
     go false t = let z : n ≡ 0 = rw t at e in absurd (true≢false (sym (eq-eqb n 0 z) ∙ t))
+
+-- a number that was found is the first, or it is 0 and the next one is
+pub first-refused : {n m : ℕ} (k : ℕ) → n ≡ m → (n ≡ 0 → ⊥) → n ≡ firstOf m k
+first-refused {n} {m} k is f = is ∙ sym (cond-false (eqb m 0) k m (ne-eqb m 0 (λ e. f (is ∙ e))))
+
+pub first-passed : {n m j k : ℕ} → n ≡ m → n ≡ 0 → j ≡ k → j ≡ firstOf m k
+first-passed {n} {m} {j} {k} is zero then = then ∙ sym (cond-true (eqb m 0) k m (eq-eqb m 0 (sym is ∙ zero)))
 
 -- ---- no step changes a length
 

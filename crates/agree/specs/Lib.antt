@@ -2,3 +2,4 @@
 pub mod Agrees
 pub mod Steps
 pub mod Through
+pub mod Both

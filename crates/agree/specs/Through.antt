@@ -2,6 +2,7 @@
 --
 --   buffersIn p              three buffers as a list; `threeOf` leads back
 --   viewOf z                 the size of both views of a split: stride by rows, luma stride the stride, chroma stride half of it
+--   viewIn r                 the same, as a split's answer r has it
 --   mainViewOf z p m         the buffers m of the main view, once a split of the picture p has written them
 --   auxViewOf t z p a        the same of the auxiliary view, in the layout t
 --   withMain z rects v q     the picture q, once the main view v is applied over the list
@@ -33,6 +34,7 @@ use Rattle.combine.specs.Number.{notFours}
 use Rattle.combine.specs.Main.{mainNumberOf, mainBuffersOf}
 use Rattle.auxiliary.specs.Auxiliary.{auxBuffersOf}
 use Rattle.split.specs.declared.PlaneLengths.{PlaneLengths}
+use Rattle.split.specs.declared.Views.{Views}
 use Rattle.split.specs.Fits.{Room}
 use Rattle.split.specs.Split.{Planes, planes, lengthsOf, mainSample, auxSample, viewAfter, splitNumberOf}
 use Rattle.agree.specs.Agrees.{pictureOf, Agrees}
@@ -48,6 +50,10 @@ threeOf (y ∷ u ∷ v ∷ rest) = planes y u v
 
 abbrev pub viewOf : Size → View
 viewOf z = record { width = strideOf z; height = rowsOf z; «luma_stride» = strideOf z; «chroma_stride» = strideOf z / 2 }
+
+-- the size that a split's answer gives
+abbrev pub viewIn : Views → View
+viewIn r = record { width = r .width; height = r .height; «luma_stride» = r .«luma_stride»; «chroma_stride» = r .«chroma_stride» }
 
 -- what each call leaves where it answers 0
 abbrev pub mainViewOf : Size → Planes → Planes → Planes

@@ -1,0 +1,179 @@
+-- `agree::through` meets its contract: a number that is not 0 is answered with nothing written; else each of the three calls answers 0, and
+-- leaves what its definition says.
+-- Assumes nothing.
+use borrow.Author.Needs.{needs}
+use mathlib.Core.Path.{_≡_, sym, _∙_}
+use lib.ListN.{length}
+use denote.Ref.{now}
+use Rattle.split.specs.Split.{Planes, planes, lengthsOf, splitNumberOf}
+use Rattle.agree.specs.Through.{firstOf, earlierNumberOf, throughNumberOf}
+use Rattle.agree.proofs.Number.{through-plainly}
+use Rattle.agree.proofs.Ends.{through-refused, through-done}
+use Rattle.agree.proofs.through.Statement.{statement}
+use Rattle.agree.proofs.through.Tie as tie
+
+-- the places: where the number is found, and where each call is done
+abbrev start : tie.After-through-number → tie.Start
+start c = c .before .before .before .before .before .before .before .before .before .before .before .before .before .before .before .before .before .before .before .before .before .before .before .before .before .before .before
+
+abbrev split-at : tie.After-slice-known21 → tie.After-split
+split-at c = c .before .before .before .before .before .before .before .before .before .before .before .before .before .before .before .before .before .before .before .before .before .before .before .before .before .before .before .before .before .before .before .before .before .before .before .before .before .before .before
+
+abbrev from : tie.After-through-number → Planes
+from c = planes (start c .args .y .now) (start c .args .u .now) (start c .args .v .now)
+
+abbrev main : tie.After-through-number → Planes
+main c = planes (start c .args .main-y .now) (start c .args .main-u .now) (start c .args .main-v .now)
+
+abbrev aux : tie.After-through-number → Planes
+aux c = planes (start c .args .aux-y .now) (start c .args .aux-u .now) (start c .args .aux-v .now)
+
+abbrev old : tie.After-through-number → Planes
+old c = planes (start c .args .old-y .now) (start c .args .old-u .now) (start c .args .old-v .now)
+
+numbered : (c : tie.After-through-number) → c .through-number .result
+    ≡ firstOf (splitNumberOf (start c .args .size) (lengthsOf (from c)) (lengthsOf (main c)) (lengthsOf (aux c)))
+    (earlierNumberOf (start c .args .size) (lengthsOf (old c)) (length (now (start c .args .rects))))
+numbered c =
+    c .through-number .ensures
+    ∙ (λ i. firstOf (splitNumberOf (start c .args .size) (c .before .before .before .before .before .before .before .before .before .before .before .before .before .lengths .ensures i) (c .before .before .before .before .before .before .before .before .before .lengths2 .ensures i) (c .before .before .before .before .before .lengths3 .ensures i))
+    (earlierNumberOf (start c .args .size) (c .before .lengths4 .ensures i) (length (now (start c .args .rects)))))
+
+zero : (c : tie.Else1)
+    → let a = start (c .before) .args in
+    throughNumberOf (a .layout) (a .size) (now (a .rects)) (from (c .before)) (main (c .before)) (aux (c .before)) (old (c .before)) ≡ 0
+zero c =
+    let k = c .before in
+    let a = start k .args in
+    through-plainly (a .layout) (a .size) (now (a .rects)) (from k) (main k) (aux k) (old k) ∙ sym (numbered k) ∙ c .if1 .left
+
+lengths-requires : tie.Need-lengths-requires
+lengths-requires c κs = search needs
+
+lengths-requires-2 : tie.Need-lengths-requires-2
+lengths-requires-2 c κs = search needs
+
+lengths-requires-3 : tie.Need-lengths-requires-3
+lengths-requires-3 c κs = search needs
+
+lengths-requires-4 : tie.Need-lengths-requires-4
+lengths-requires-4 c κs = search needs
+
+through-number-requires : tie.Need-through-number-requires
+through-number-requires c κs = search needs
+
+same-length : tie.Need-same-length
+same-length c = search needs
+
+same-length-2 : tie.Need-same-length-2
+same-length-2 c = search needs
+
+same-length-3 : tie.Need-same-length-3
+same-length-3 c = search needs
+
+same-length-4 : tie.Need-same-length-4
+same-length-4 c = search needs
+
+same-length-5 : tie.Need-same-length-5
+same-length-5 c = search needs
+
+same-length-6 : tie.Need-same-length-6
+same-length-6 c = search needs
+
+same-length-7 : tie.Need-same-length-7
+same-length-7 c = search needs
+
+same-length-8 : tie.Need-same-length-8
+same-length-8 c = search needs
+
+same-length-9 : tie.Need-same-length-9
+same-length-9 c = search needs
+
+returns : tie.Need-returns
+returns c =
+    let k = c .before in
+    let a = start k .args in
+    through-refused (a .layout) (a .size) (now (a .rects)) (from k) (main k) (aux k) (old k) (numbered k) (c .if1 .taken)
+
+split-requires : tie.Need-split-requires
+split-requires c κs = search needs
+
+view-of-requires : tie.Need-view-of-requires
+view-of-requires c κs = search needs
+
+apply-main-view-requires : tie.Need-apply-main-view-requires
+apply-main-view-requires c κs = search needs
+
+apply-auxiliary-view-requires : tie.Need-apply-auxiliary-view-requires
+apply-auxiliary-view-requires c κs = search needs
+
+same-length-10 : tie.Need-same-length-10
+same-length-10 c = split-at c .split .kept .1 .1 .1 .1 .1 .0
+
+same-length-11 : tie.Need-same-length-11
+same-length-11 c = split-at c .split .kept .1 .1 .1 .1 .1 .1 .0
+
+same-length-12 : tie.Need-same-length-12
+same-length-12 c = split-at c .split .kept .1 .1 .1 .1 .1 .1 .1 .0
+
+same-length-13 : tie.Need-same-length-13
+same-length-13 c = split-at c .split .kept .1 .1 .1 .1 .1 .1 .1 .1 .0
+
+same-length-14 : tie.Need-same-length-14
+same-length-14 c = split-at c .split .kept .1 .1 .1 .1 .1 .1 .1 .1 .1 .0
+
+same-length-15 : tie.Need-same-length-15
+same-length-15 c = split-at c .split .kept .1 .1 .1 .1 .1 .1 .1 .1 .1 .1 .0
+
+same-length-16 : tie.Need-same-length-16
+same-length-16 c = search needs
+
+same-length-17 : tie.Need-same-length-17
+same-length-17 c = search needs
+
+same-length-18 : tie.Need-same-length-18
+same-length-18 c = search needs
+
+returns-2 : tie.Need-returns-2
+returns-2 c =
+    let s = split-at c in
+    let e = s .before .before .before .before .before .before .before in
+    let k = e .before in
+    let a = start k .args in
+    let first = c .before .before .before .before .before .before .before .before .before .before .before .before .before .before .before .before .before .before .before in
+    through-done (a .layout) (a .size) (now (a .rects)) (from k) (main k) (aux k) (old k) (zero e)
+    (s .split .ensures) (first .before .before .before .before .before .before .before .view-of .ensures) (first .apply-main-view .ensures) (c .before .before .before .before .before .before .apply-auxiliary-view .ensures)
+
+pub through-spec : {M : Type 1} → statement M
+through-spec =
+    tie.close
+    (tie.spec
+    lengths-requires
+    lengths-requires-2
+    lengths-requires-3
+    lengths-requires-4
+    through-number-requires
+    same-length
+    same-length-2
+    same-length-3
+    same-length-4
+    same-length-5
+    same-length-6
+    same-length-7
+    same-length-8
+    same-length-9
+    returns
+    split-requires
+    view-of-requires
+    apply-main-view-requires
+    apply-auxiliary-view-requires
+    same-length-10
+    same-length-11
+    same-length-12
+    same-length-13
+    same-length-14
+    same-length-15
+    same-length-16
+    same-length-17
+    same-length-18
+    returns-2)
