@@ -5,27 +5,24 @@
 use Prim.Native.Nat.{ℕ, _*_, _/_, _%_, _<_, _≤_}
 use native.Mathlib.Omega.{arith}
 use mathlib.Core.Path.{_≡_, refl, sym, ap, ap₂, _∙_}
-use mathlib.Core.Bool.{Bool, true, false, cond, _&&_, _||_, true≢false}
+use mathlib.Core.Bool.{Bool, true, false, cond, _&&_, true≢false}
 use mathlib.Core.Logic.{⊎-elim}
 use mathlib.Core.List.{List}
 use lib.Dec.{ltb}
 use borrow.Author.Tests.{lt-ltb}
-use Rattle.lent.proofs.Bools.{both, cond-true, cond-false}
+use Rattle.lent.proofs.Bools.{both, cond-true}
 use Rattle.picture.specs.declared.Size.{Size}
 use Rattle.picture.specs.Sizes.{strideOf, rowsOf}
 use Rattle.view.specs.declared.View.{View}
 use Rattle.layout.specs.declared.Chroma.{Chroma}
 use Rattle.layout.specs.declared.Chroma.the-variants.{CU, CV}
-use Rattle.layout.specs.declared.Layout.{Layout}
-use Rattle.layout.specs.Maps.{PY, PU, PV, Place, Maps, place, partOf, mapsV1, mapsV2, maps}
-use Rattle.layout.specs.Exists.{side, present, leftOut, carried}
+use Rattle.layout.specs.Maps.{PY, PU, PV, Maps, place, partOf, mapsV1, mapsV2}
+use Rattle.layout.specs.Exists.{present, leftOut, carried}
 use Rattle.layout.specs.Fed.{Fed}
 use Rattle.layout.proofs.Exists.{parity, leftOut-row, leftOut-col, present-facts, carried-holds}
-use Rattle.layout.proofs.Fed.{v1-fed, v2-fed, maps-fed}
-use Rattle.combine.specs.Rects.{taken}
-use Rattle.combine.specs.Main.{mainLuma}
+use Rattle.layout.proofs.Fed.{v1-fed, v2-fed}
 use Rattle.agree.specs.Agrees.{Picture, inside, widened, Agrees, Same}
-use Rattle.agree.specs.Steps.{ViewSamples, gives, atPlace, atSpot, mainView, auxView, Extends, Steps}
+use Rattle.agree.specs.Steps.{ViewSamples, gives, atPlace, Extends, Steps}
 use Rattle.agree.proofs.Inside.{luma-inside, widened-within}
 
 -- what the auxiliary view leaves out is at an even row and an even column

@@ -1,7 +1,7 @@
 -- How the walks end: refused, with every lent byte as it was; or done, where each call answered 0 and left what its definition says.
 -- Assumes nothing.
 use Prim.Native.Nat.{ℕ}
-use mathlib.Core.Path.{_≡_, refl, sym, ap, _∙_, subst}
+use mathlib.Core.Path.{_≡_, sym, ap, _∙_, subst}
 use mathlib.Core.List.{List, [], _∷_, _++_}
 use lib.ListN.{length, drop}
 use Rattle.lent.specs.declared.Answer.{Answer}
@@ -11,12 +11,14 @@ use Rattle.picture.specs.declared.Size.{Size}
 use Rattle.picture.specs.Sizes.{strideOf}
 use Rattle.view.specs.declared.View.{View}
 use Rattle.layout.specs.declared.Layout.{Layout}
+use Rattle.layout.specs.declared.Layout.the-variants.{V1, V2}
 use Rattle.combine.specs.Main.{mainNumberOf, mainBuffersOf, MainOutcome}
 use Rattle.auxiliary.specs.Auxiliary.{auxBuffersOf, AuxOutcome}
 use Rattle.split.specs.declared.Views.{Views}
 use Rattle.split.specs.Split.{Planes, lengthsOf, mainSample, auxSample, viewAfter, splitNumberOf, splitAnswerOf, splitBuffersOf, SplitEnds}
 use Rattle.agree.specs.Agrees.{pictureOf, Agrees}
-use Rattle.agree.specs.Through.{buffersIn, threeOf, viewOf, viewIn, mainViewOf, auxViewOf, withMain, withAux, throughOf, firstOf, applyNumberOn, throughNumberOf, earlierNumberOf, planesAfter, throughBuffersOf, ThroughEnds}
+use Rattle.agree.specs.Through.{buffersIn, threeOf, viewOf, viewIn, mainViewOf, auxViewOf, withMain, throughOf, firstOf, applyNumberOn, throughNumberOf, earlierNumberOf, planesAfter, throughBuffersOf, ThroughEnds}
+use Rattle.agree.specs.Both.{bothNumberOf, bothBuffersOf, BothEnds}
 use Rattle.agree.proofs.Number.{first-zero, through-plainly}
 use Rattle.agree.proofs.Walk.{through-agrees}
 
@@ -93,4 +95,79 @@ module _ (t : Layout) (z : Size) (rects : List ℕ) (p m a q : Planes) where
         buffers = (λ i. buffersIn (main-is i) ++ (buffersIn (aux-is i) ++ buffersIn (after-is i))) ∙ ap (λ (n : ℕ). throughBuffersOf n t z rects p m a q) (sym zero);
       };
       agrees = λ e. subst (λ (y : Planes). Agrees z rects (pictureOf z p) (pictureOf z q) (pictureOf z y)) (sym after-is) (through-agrees t z rects p m a q zero);
+    }
+
+-- ---- in both layouts
+
+-- what a walk that answered 0 has left
+module _ (t : Layout) (z : Size) (rects : List ℕ) (p m a q : Planes) (zero : throughNumberOf t z rects p m a q ≡ 0) {r : Answer} {m′ a′ x : Planes}
+    (walk : ThroughEnds t z rects p m a q r m′ a′ x) where
+  answered : r ≡ answerOf 0 0
+  answered = walk .ends .answer ∙ ap (λ (n : ℕ). answerOf n 0) zero
+
+  left : (buffersIn m′ ++ (buffersIn a′ ++ buffersIn x)) ≡ throughBuffersOf 0 t z rects p m a q
+  left = walk .ends .buffers ∙ ap (λ (n : ℕ). throughBuffersOf n t z rects p m a q) zero
+
+  main-left : m′ ≡ mainViewOf z p m
+  unfolding throughBuffersOf
+  main-left = ap threeOf left
+
+  aux-left : a′ ≡ auxViewOf t z p a
+  unfolding throughBuffersOf
+  aux-left = ap (λ (l : List (List ℕ)). threeOf (drop 3 l)) left
+
+  earlier-left : x ≡ throughOf t z rects p m a q
+  unfolding throughBuffersOf
+  earlier-left = ap (λ (l : List (List ℕ)). threeOf (drop 6 l)) left
+
+module _ (z : Size) (rects : List ℕ) (p m a q q′ : Planes) where
+  pub both-refused : {n : ℕ} → n ≡ bothNumberOf z rects p m a q q′ → (n ≡ 0 → ⊥) → BothEnds z rects p m a q q′ (record { number = n; count = 0 }) m a q q′
+  unfolding bothBuffersOf
+  both-refused {n} is f =
+      let not-zero : bothNumberOf z rects p m a q q′ ≡ 0 → ⊥ = λ e. f (is ∙ e) in
+      record {
+        ends = record {
+          answer = answer-none is;
+          buffers = λ i. planes-refused _ m (mainViewOf z p (mainViewOf z p m)) not-zero i
+              ++ (planes-refused _ a (auxViewOf V2 z p (auxViewOf V1 z p a)) not-zero i
+              ++ (planes-refused _ q (throughOf V1 z rects p m a q) not-zero i
+              ++ planes-refused _ q′ (throughOf V2 z rects p (mainViewOf z p m) (auxViewOf V1 z p a) q′) not-zero i));
+        };
+        first = λ e. absurd (f e);
+        second = λ e. absurd (f e);
+      }
+
+  module _ (zero : bothNumberOf z rects p m a q q′ ≡ 0) {r₁ r₂ : Answer} {m₁ a₁ x m₂ a₂ x′ : Planes}
+      (one : ThroughEnds V1 z rects p m a q r₁ m₁ a₁ x) (two : ThroughEnds V2 z rects p m₁ a₁ q′ r₂ m₂ a₂ x′) where
+    both-zeros : (throughNumberOf V1 z rects p m a q ≡ 0) × (throughNumberOf V2 z rects p (mainViewOf z p m) (auxViewOf V1 z p a) q′ ≡ 0)
+    unfolding bothNumberOf
+    both-zeros = first-zero (throughNumberOf V1 z rects p m a q) _ zero
+
+    main-first : m₁ ≡ mainViewOf z p m
+    main-first = main-left V1 z rects p m a q (both-zeros .0) one
+
+    aux-first : a₁ ≡ auxViewOf V1 z p a
+    aux-first = aux-left V1 z rects p m a q (both-zeros .0) one
+
+    then-zero : throughNumberOf V2 z rects p m₁ a₁ q′ ≡ 0
+    then-zero = (λ i. throughNumberOf V2 z rects p (main-first i) (aux-first i) q′) ∙ both-zeros .1
+
+    pub both-done : BothEnds z rects p m a q q′ r₂ m₂ a₂ x x′
+    unfolding bothBuffersOf
+    both-done = record {
+      ends = record {
+        answer = answered V2 z rects p m₁ a₁ q′ then-zero two ∙ ap (λ (n : ℕ). answerOf n 0) (sym zero);
+        buffers =
+            (λ i. buffersIn (main-left V2 z rects p m₁ a₁ q′ then-zero two i)
+            ++ (buffersIn (aux-left V2 z rects p m₁ a₁ q′ then-zero two i)
+            ++ (buffersIn (earlier-left V1 z rects p m a q (both-zeros .0) one i)
+            ++ buffersIn (earlier-left V2 z rects p m₁ a₁ q′ then-zero two i))))
+            ∙ (λ i. buffersIn (mainViewOf z p (main-first i))
+            ++ (buffersIn (auxViewOf V2 z p (aux-first i))
+            ++ (buffersIn (throughOf V1 z rects p m a q)
+            ++ buffersIn (throughOf V2 z rects p (main-first i) (aux-first i) q′))))
+            ∙ ap (λ (n : ℕ). bothBuffersOf n z rects p m a q q′) (sym zero);
+      };
+      first = λ e. one .agrees (ap (λ (r : Answer). r .number) (answered V1 z rects p m a q (both-zeros .0) one));
+      second = two .agrees;
     }

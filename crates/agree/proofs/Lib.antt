@@ -4,3 +4,4 @@ pub mod Agree
 pub mod Number
 pub mod Walk
 pub mod Ends
+pub mod Unique

@@ -7,10 +7,9 @@ use mathlib.Core.Path.{_≡_, refl, sym, ap, _∙_}
 use mathlib.Core.Bool.{Bool, true, false, cond, _||_, not, Bool·not-not, true≢false}
 use mathlib.Core.Logic.{_↔_, Iff·rfl, Iff·trans, Iff·and, and-true}
 use mathlib.Core.List.{List, [], _∷_}
-use lib.Dec.{eqb, ltb}
+use lib.Dec.{eqb}
 use lib.ListN.{length}
 use borrow.Author.Tests.{eq-eqb, ne-eqb, eqb-true, le-ltb}
-use Rattle.lent.specs.Refusal.{refusal}
 use Rattle.lent.specs.Sizes.{tooShort, halfUp}
 use Rattle.lent.proofs.Bools.{cond-same, cond-true, cond-false}
 use Rattle.lent.proofs.Exactly.{nor}
@@ -20,8 +19,9 @@ use Rattle.picture.specs.declared.Size.{Size}
 use Rattle.picture.specs.Sizes.{strideOf, rowsOf, planesShort, PlanesFit}
 use Rattle.picture.proofs.Sizes.{planes-fit}
 use Rattle.view.specs.View.{narrow, planeShort}
-use Rattle.view.proofs.Exactly.{narrow-none, planeShort-none}
+use Rattle.view.proofs.Exactly.{narrow-none}
 use Rattle.layout.specs.declared.Layout.{Layout}
+use Rattle.layout.specs.declared.Layout.the-variants.{V1, V2}
 use Rattle.combine.specs.Number.{notFours, applyNumberOf}
 use Rattle.split.specs.declared.PlaneLengths.{PlaneLengths}
 use Rattle.split.specs.Fits.{Room}
@@ -29,6 +29,7 @@ use Rattle.split.specs.Split.{Planes, lengthsOf, viewShort, splitNumberOf}
 use Rattle.split.proofs.Calls.{view-room}
 use Rattle.split.proofs.Exactly.{split-0-exactly, small-exactly}
 use Rattle.agree.specs.Through.{viewOf, mainViewOf, auxViewOf, withMain, firstOf, applyNumberOn, throughNumberOf, earlierNumberOf, Lent}
+use Rattle.agree.specs.Both.{bothNumberOf}
 
 -- ---- the first of two numbers
 
@@ -91,6 +92,16 @@ module _ (t : Layout) (z : Size) (rects : List ℕ) (p m a q : Planes) where
       let aux = apply-plainly z rects (auxViewOf t z p a) (withMain z rects (mainViewOf z p m) q) (ap (viewShort z) (aux-view-lengths t z p a) ∙ long .1) in
       (λ i. firstOf (main i) ((aux ∙ ap (λ (n : PlaneLengths). earlierNumberOf z n (length rects)) (with-main-lengths z rects (mainViewOf z p m) q)) i))
       ∙ cond-same (eqb (earlierNumberOf z (lengthsOf q) (length rects)) 0) _)
+
+-- of the two walks: the views' buffers are as long the second time
+pub both-plainly : (z : Size) (rects : List ℕ) (p m a q q′ : Planes)
+    → let s = splitNumberOf z (lengthsOf p) (lengthsOf m) (lengthsOf a) in
+    bothNumberOf z rects p m a q q′ ≡ firstOf (firstOf s (earlierNumberOf z (lengthsOf q) (length rects))) (firstOf s (earlierNumberOf z (lengthsOf q′) (length rects)))
+unfolding bothNumberOf
+both-plainly z rects p m a q q′ =
+    λ i. firstOf (through-plainly V1 z rects p m a q i)
+    ((through-plainly V2 z rects p (mainViewOf z p m) (auxViewOf V1 z p a) q′
+    ∙ (λ j. firstOf (splitNumberOf z (lengthsOf p) (main-view-lengths z p m j) (aux-view-lengths V1 z p a j)) (earlierNumberOf z (lengthsOf q′) (length rects)))) i)
 
 -- ---- 0, exactly when
 

@@ -1,9 +1,9 @@
 -- From the calls' definitions to demand 3: the views that a split leaves hold its samples, the planes that the apply calls leave are read at
 -- a row and column, and the steps of `Steps` follow.
 -- Assumes nothing.
-use Prim.Native.Nat.{ℕ, _+_, _*_, _/_, _<_, _≤_}
+use Prim.Native.Nat.{ℕ, _*_, _/_, _<_, _≤_}
 use native.Mathlib.Omega.{arith}
-use mathlib.Core.Path.{_≡_, refl, sym, ap, _∙_}
+use mathlib.Core.Path.{_≡_, refl, ap, _∙_}
 use mathlib.Core.Bool.{Bool, cond, _&&_, and-assoc}
 use mathlib.Core.List.{List}
 use lib.Dec.{ltb}
@@ -16,6 +16,7 @@ use Rattle.picture.specs.Sizes.{strideOf, rowsOf}
 use Rattle.layout.specs.declared.Chroma.{Chroma}
 use Rattle.layout.specs.declared.Chroma.the-variants.{CU, CV}
 use Rattle.layout.specs.declared.Layout.{Layout}
+use Rattle.layout.specs.declared.Layout.the-variants.{V1, V2}
 use Rattle.layout.specs.Maps.{Part, PY, PU, PV, place, partOf, maps}
 use Rattle.layout.specs.Exists.{side, fed}
 use Rattle.layout.proofs.Fed.{maps-fed}
@@ -24,7 +25,7 @@ use Rattle.combine.specs.Main.{mainLuma, mainChroma, halved, chromaAfter}
 use Rattle.auxiliary_rows.specs.Rows.{partSample, auxSource}
 use Rattle.auxiliary.specs.Auxiliary.{auxIn, auxRule, auxAfter}
 use Rattle.split.specs.Fits.{Room}
-use Rattle.split.specs.Split.{Planes, lengthsOf, mainSample, auxSample, viewAfter}
+use Rattle.split.specs.Split.{Planes, mainSample, auxSample, viewAfter}
 use Rattle.agree.specs.Agrees.{pictureOf, widened, Agrees}
 use Rattle.agree.specs.Steps.{ViewSamples, gives, atSpot, mainView, auxView, Steps}
 use Rattle.agree.specs.Through.{threeOf, viewOf, mainViewOf, auxViewOf, withMain, withAux, throughOf, throughNumberOf, Lent}
@@ -133,3 +134,10 @@ module _ (t : Layout) (z : Size) (rects : List ℕ) (p m a q : Planes) (f : Lent
 pub through-agrees : (t : Layout) (z : Size) (rects : List ℕ) (p m a q : Planes) → throughNumberOf t z rects p m a q ≡ 0
     → Agrees z rects (pictureOf z p) (pictureOf z q) (pictureOf z (throughOf t z rects p m a q))
 through-agrees t z rects p m a q none = lent-agrees t z rects p m a q (through-0-exactly z rects p m a q t .0 none)
+
+-- ---- demand 3: as V1 onto the one, as V2 onto the other; the views' buffers may be any that are long enough
+
+pub layouts-agree : (z : Size) (rects : List ℕ) (p m a q m′ a′ q′ : Planes) → Lent z rects p m a q → Lent z rects p m′ a′ q′
+    → Agrees z rects (pictureOf z p) (pictureOf z q) (pictureOf z (throughOf V1 z rects p m a q))
+    × Agrees z rects (pictureOf z p) (pictureOf z q′) (pictureOf z (throughOf V2 z rects p m′ a′ q′))
+layouts-agree z rects p m a q m′ a′ q′ one two = (lent-agrees V1 z rects p m a q one, lent-agrees V2 z rects p m′ a′ q′ two)
