@@ -6,10 +6,10 @@ use mathlib.Core.Path.{_≡_, refl, sym, _∙_}
 use lib.ListN.{length}
 use denote.Ref.{now}
 use Rattle.split.specs.Split.{Planes, planes, splitNumberOf}
-use Rattle.agree.specs.Through.{firstOf, earlierNumberOf}
-use Rattle.agree.specs.Both.{bothNumberOf}
-use Rattle.agree.proofs.Number.{both-plainly}
-use Rattle.agree.proofs.Ends.{both-refused, both-done}
+use Rattle.agree_law.specs.Through.{firstOf, earlierNumberOf}
+use Rattle.agree_law.specs.Both.{bothNumberOf}
+use Rattle.agree_law.proofs.Number.{both-plainly}
+use Rattle.agree_law.proofs.Ends.{both-refused, both-done}
 use Rattle.agree.proofs.both.Statement.{statement}
 use Rattle.agree.proofs.both.Tie as tie
 

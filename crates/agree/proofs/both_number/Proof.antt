@@ -1,6 +1,6 @@
 -- `agree::both_number` meets its contract: the first walk's number, where it is not 0, comes first. Assumes nothing.
 use borrow.Author.Needs.{needs}
-use Rattle.agree.proofs.Number.{first-refused, first-passed}
+use Rattle.agree_law.proofs.Number.{first-refused, first-passed}
 use Rattle.agree.proofs.both_number.Statement.{statement}
 use Rattle.agree.proofs.both_number.Tie as tie
 

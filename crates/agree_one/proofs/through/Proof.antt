@@ -1,4 +1,4 @@
--- `agree::through` meets its contract: a number that is not 0 is answered with nothing written; else each of the three calls answers 0, and
+-- `agree_one::through` meets its contract: a number that is not 0 is answered with nothing written; else each of the three calls answers 0, and
 -- leaves what its definition says.
 -- Assumes nothing.
 use borrow.Author.Needs.{needs}
@@ -6,11 +6,11 @@ use mathlib.Core.Path.{_≡_, refl, sym, _∙_}
 use lib.ListN.{length}
 use denote.Ref.{now}
 use Rattle.split.specs.Split.{Planes, planes, lengthsOf, splitNumberOf}
-use Rattle.agree.specs.Through.{firstOf, earlierNumberOf, throughNumberOf}
-use Rattle.agree.proofs.Number.{through-plainly}
-use Rattle.agree.proofs.Ends.{through-refused, through-done}
-use Rattle.agree.proofs.through.Statement.{statement}
-use Rattle.agree.proofs.through.Tie as tie
+use Rattle.agree_law.specs.Through.{firstOf, earlierNumberOf, throughNumberOf}
+use Rattle.agree_law.proofs.Number.{through-plainly}
+use Rattle.agree_law.proofs.Ends.{through-refused, through-done}
+use Rattle.agree_one.proofs.through.Statement.{statement}
+use Rattle.agree_one.proofs.through.Tie as tie
 
 -- the places: where the number is found, and where each call is done
 abbrev start : tie.After-through-number → tie.Start

@@ -20,7 +20,7 @@ use Rattle.layout.specs.Maps.{Part, PY, PU, PV, Place, Spot, Maps, place, spot,
 use Rattle.layout.specs.Exists.{side, present, leftOut}
 use Rattle.combine.specs.Rects.{taken}
 use Rattle.combine.specs.Main.{mainLuma}
-use Rattle.agree.specs.Agrees.{Picture, widened}
+use Rattle.agree_law.specs.Agrees.{Picture, widened}
 
 abbrev pub ViewSamples : Type 0
 ViewSamples = Part → ℕ → ℕ → ℕ

@@ -21,9 +21,9 @@ use Rattle.layout.specs.Exists.{present, leftOut, carried}
 use Rattle.layout.specs.Fed.{Fed}
 use Rattle.layout.proofs.Exists.{parity, leftOut-row, leftOut-col, present-facts, carried-holds}
 use Rattle.layout.proofs.Fed.{v1-fed, v2-fed}
-use Rattle.agree.specs.Agrees.{Picture, inside, widened, Agrees, Same}
-use Rattle.agree.specs.Steps.{ViewSamples, gives, atPlace, Extends, Steps}
-use Rattle.agree.proofs.Inside.{luma-inside, widened-within}
+use Rattle.agree_law.specs.Agrees.{Picture, inside, widened, Agrees, Same}
+use Rattle.agree_law.specs.Steps.{ViewSamples, gives, atPlace, Extends, Steps}
+use Rattle.agree_law.proofs.Inside.{luma-inside, widened-within}
 
 -- what the auxiliary view leaves out is at an even row and an even column
 even-even : (r c : ℕ) → leftOut r c ≡ false → (r % 2 ≡ 0) × (c % 2 ≡ 0)

@@ -26,12 +26,12 @@ use Rattle.auxiliary_rows.specs.Rows.{partSample, auxSource}
 use Rattle.auxiliary.specs.Auxiliary.{auxIn, auxRule, auxAfter}
 use Rattle.split.specs.Fits.{Room}
 use Rattle.split.specs.Split.{Planes, mainSample, auxSample, viewAfter}
-use Rattle.agree.specs.Agrees.{pictureOf, widened, Agrees}
-use Rattle.agree.specs.Steps.{ViewSamples, gives, atSpot, mainView, auxView, Steps}
-use Rattle.agree.specs.Through.{threeOf, viewOf, mainViewOf, auxViewOf, withMain, withAux, throughOf, throughNumberOf, Lent}
-use Rattle.agree.proofs.Inside.{taken-beside}
-use Rattle.agree.proofs.Agree.{agrees, itself}
-use Rattle.agree.proofs.Number.{through-0-exactly}
+use Rattle.agree_law.specs.Agrees.{pictureOf, widened, Agrees}
+use Rattle.agree_law.specs.Steps.{ViewSamples, gives, atSpot, mainView, auxView, Steps}
+use Rattle.agree_law.specs.Through.{threeOf, viewOf, mainViewOf, auxViewOf, withMain, withAux, throughOf, throughNumberOf, Lent}
+use Rattle.agree_law.proofs.Inside.{taken-beside}
+use Rattle.agree_law.proofs.Agree.{agrees, itself}
+use Rattle.agree_law.proofs.Number.{through-0-exactly}
 
 -- a sample of a plane that was painted
 sample-painted : (w h : ℕ) (t : ℕ → ℕ → Bool) (s : ℕ → ℕ → ℕ) (xs : List ℕ) (r c : ℕ) → r < h → c < w → h * w ≤ length xs

@@ -16,11 +16,11 @@ use Rattle.combine.specs.Main.{mainNumberOf, mainBuffersOf, MainOutcome}
 use Rattle.auxiliary.specs.Auxiliary.{auxBuffersOf, AuxOutcome}
 use Rattle.split.specs.declared.Views.{Views}
 use Rattle.split.specs.Split.{Planes, lengthsOf, mainSample, auxSample, viewAfter, splitNumberOf, splitAnswerOf, splitBuffersOf, SplitEnds}
-use Rattle.agree.specs.Agrees.{pictureOf, Agrees}
-use Rattle.agree.specs.Through.{buffersIn, threeOf, viewOf, viewIn, mainViewOf, auxViewOf, withMain, throughOf, firstOf, applyNumberOn, throughNumberOf, earlierNumberOf, planesAfter, throughBuffersOf, ThroughEnds}
-use Rattle.agree.specs.Both.{bothNumberOf, bothBuffersOf, BothEnds}
-use Rattle.agree.proofs.Number.{first-zero, through-plainly}
-use Rattle.agree.proofs.Walk.{through-agrees}
+use Rattle.agree_law.specs.Agrees.{pictureOf, Agrees}
+use Rattle.agree_law.specs.Through.{buffersIn, threeOf, viewOf, viewIn, mainViewOf, auxViewOf, withMain, throughOf, firstOf, applyNumberOn, throughNumberOf, earlierNumberOf, planesAfter, throughBuffersOf, ThroughEnds}
+use Rattle.agree_law.specs.Both.{bothNumberOf, bothBuffersOf, BothEnds}
+use Rattle.agree_law.proofs.Number.{first-zero, through-plainly}
+use Rattle.agree_law.proofs.Calls.{through-agrees}
 
 -- three buffers of a refused call
 planes-refused : (n : ℕ) (old new : Planes) → (n ≡ 0 → ⊥) → buffersIn old ≡ planesAfter n old new

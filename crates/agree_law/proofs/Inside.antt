@@ -14,7 +14,7 @@ use Rattle.combine.specs.Rects.{Rule, rectAtOf, nth, taken, area}
 use Rattle.combine.specs.Main.{mainLuma}
 use Rattle.combine.proofs.Rects.{taken-facts, taken-holds, area-facts}
 use Rattle.combine.proofs.Main.{mainLuma-facts, mainLuma-holds}
-use Rattle.agree.specs.Agrees.{inRect, inside, widened}
+use Rattle.agree_law.specs.Agrees.{inRect, inside, widened}
 
 -- a rule is another one with a test beside it
 pub taken-beside : (rule other : Rule) (beside : Bool) (rects : List ℕ) (r c : ℕ)

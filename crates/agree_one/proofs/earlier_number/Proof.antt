@@ -1,10 +1,10 @@
--- `agree::earlier_number` meets its contract: each return is the first test that held. Assumes nothing.
+-- `agree_one::earlier_number` meets its contract: each return is the first test that held. Assumes nothing.
 use borrow.Author.Needs.{needs}
 use borrow.Author.Tests.{eq-eqb, ne-eqb}
 use mathlib.Core.Path.{sym}
-use Rattle.agree.specs.Through.{earlierNumberOf}
-use Rattle.agree.proofs.earlier_number.Statement.{statement}
-use Rattle.agree.proofs.earlier_number.Tie as tie
+use Rattle.agree_law.specs.Through.{earlierNumberOf}
+use Rattle.agree_one.proofs.earlier_number.Statement.{statement}
+use Rattle.agree_one.proofs.earlier_number.Tie as tie
 
 planes-short-requires : tie.Need-planes-short-requires
 planes-short-requires c κs = search needs

@@ -13,8 +13,8 @@ use Rattle.lent.specs.Outcome.{Outcome, answerOf}
 use Rattle.picture.specs.declared.Size.{Size}
 use Rattle.layout.specs.declared.Layout.the-variants.{V1, V2}
 use Rattle.split.specs.Split.{Planes}
-use Rattle.agree.specs.Agrees.{pictureOf, Agrees}
-use Rattle.agree.specs.Through.{buffersIn, mainViewOf, auxViewOf, throughOf, firstOf, throughNumberOf, planesAfter}
+use Rattle.agree_law.specs.Agrees.{pictureOf, Agrees}
+use Rattle.agree_law.specs.Through.{buffersIn, mainViewOf, auxViewOf, throughOf, firstOf, throughNumberOf, planesAfter}
 
 unfoldable pub bothNumberOf : Size → List ℕ → Planes → Planes → Planes → Planes → Planes → ℕ
 bothNumberOf z rects p m a q q′ =

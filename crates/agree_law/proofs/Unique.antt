@@ -8,10 +8,10 @@ use Rattle.lent.proofs.Outcome.{outcome-unique}
 use Rattle.picture.specs.declared.Size.{Size}
 use Rattle.layout.specs.declared.Layout.{Layout}
 use Rattle.split.specs.Split.{Planes}
-use Rattle.agree.specs.Agrees.{pictureOf, Same}
-use Rattle.agree.specs.Through.{buffersIn, throughNumberOf, throughBuffersOf, ThroughEnds}
-use Rattle.agree.specs.Both.{bothNumberOf, bothBuffersOf, BothEnds}
-use Rattle.agree.proofs.Agree.{agrees-same}
+use Rattle.agree_law.specs.Agrees.{pictureOf, Same}
+use Rattle.agree_law.specs.Through.{buffersIn, throughNumberOf, throughBuffersOf, ThroughEnds}
+use Rattle.agree_law.specs.Both.{bothNumberOf, bothBuffersOf, BothEnds}
+use Rattle.agree_law.proofs.Agree.{agrees-same}
 
 pub through-unique : (t : Layout) (z : Size) (rects : List ℕ) (p m a q : Planes) (r r′ : Answer) (m₁ a₁ x₁ m₂ a₂ x₂ : Planes)
     → ThroughEnds t z rects p m a q r m₁ a₁ x₁ → ThroughEnds t z rects p m a q r′ m₂ a₂ x₂

@@ -2,6 +2,6 @@
 pub mod Inside
 pub mod Agree
 pub mod Number
-pub mod Walk
+pub mod Calls
 pub mod Ends
 pub mod Unique

@@ -37,7 +37,7 @@ use Rattle.split.specs.declared.PlaneLengths.{PlaneLengths}
 use Rattle.split.specs.declared.Views.{Views}
 use Rattle.split.specs.Fits.{Room}
 use Rattle.split.specs.Split.{Planes, planes, lengthsOf, mainSample, auxSample, viewAfter, splitNumberOf}
-use Rattle.agree.specs.Agrees.{pictureOf, Agrees}
+use Rattle.agree_law.specs.Agrees.{pictureOf, Agrees}
 
 abbrev pub buffersIn : Planes → List (List ℕ)
 buffersIn p = p .y ∷ p .u ∷ p .v ∷ []

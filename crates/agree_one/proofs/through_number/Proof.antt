@@ -1,8 +1,8 @@
--- `agree::through_number` meets its contract: the split's number, where it is not 0, comes first. Assumes nothing.
+-- `agree_one::through_number` meets its contract: the split's number, where it is not 0, comes first. Assumes nothing.
 use borrow.Author.Needs.{needs}
-use Rattle.agree.proofs.Number.{first-refused, first-passed}
-use Rattle.agree.proofs.through_number.Statement.{statement}
-use Rattle.agree.proofs.through_number.Tie as tie
+use Rattle.agree_law.proofs.Number.{first-refused, first-passed}
+use Rattle.agree_one.proofs.through_number.Statement.{statement}
+use Rattle.agree_one.proofs.through_number.Tie as tie
 
 split-number-requires : tie.Need-split-number-requires
 split-number-requires c κs = search needs

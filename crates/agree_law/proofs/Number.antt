@@ -28,8 +28,8 @@ use Rattle.split.specs.Fits.{Room}
 use Rattle.split.specs.Split.{Planes, lengthsOf, viewShort, splitNumberOf}
 use Rattle.split.proofs.Calls.{view-room}
 use Rattle.split.proofs.Exactly.{split-0-exactly, small-exactly}
-use Rattle.agree.specs.Through.{viewOf, mainViewOf, auxViewOf, withMain, firstOf, applyNumberOn, throughNumberOf, earlierNumberOf, Lent}
-use Rattle.agree.specs.Both.{bothNumberOf}
+use Rattle.agree_law.specs.Through.{viewOf, mainViewOf, auxViewOf, withMain, firstOf, applyNumberOn, throughNumberOf, earlierNumberOf, Lent}
+use Rattle.agree_law.specs.Both.{bothNumberOf}
 
 -- ---- the first of two numbers
 
