@@ -24,7 +24,7 @@ use Rattle.combine.specs.Rects.{taken, area}
 use Rattle.combine.specs.Main.{mainLuma, mainChroma, halved, chromaAfter}
 use Rattle.auxiliary_rows.specs.Rows.{partSample, auxSource}
 use Rattle.auxiliary.specs.Auxiliary.{auxIn, auxRule, auxAfter}
-use Rattle.split.specs.Fits.{Room}
+use Rattle.split_views.specs.Fits.{Room}
 use Rattle.split.specs.Split.{Planes, mainSample, auxSample, viewAfter}
 use Rattle.agree_law.specs.Agrees.{pictureOf, widened, Agrees}
 use Rattle.agree_law.specs.Steps.{ViewSamples, gives, atSpot, mainView, auxView, Steps}

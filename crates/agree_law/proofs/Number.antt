@@ -24,7 +24,7 @@ use Rattle.layout.specs.declared.Layout.{Layout}
 use Rattle.layout.specs.declared.Layout.the-variants.{V1, V2}
 use Rattle.combine.specs.Number.{notFours, applyNumberOf}
 use Rattle.split.specs.declared.PlaneLengths.{PlaneLengths}
-use Rattle.split.specs.Fits.{Room}
+use Rattle.split_views.specs.Fits.{Room}
 use Rattle.split.specs.Split.{Planes, lengthsOf, viewShort, splitNumberOf}
 use Rattle.split.proofs.Calls.{view-room}
 use Rattle.split.proofs.Exactly.{split-0-exactly, small-exactly}

@@ -35,7 +35,7 @@ use Rattle.combine.specs.Main.{mainNumberOf, mainBuffersOf}
 use Rattle.auxiliary.specs.Auxiliary.{auxBuffersOf}
 use Rattle.split.specs.declared.PlaneLengths.{PlaneLengths}
 use Rattle.split.specs.declared.Views.{Views}
-use Rattle.split.specs.Fits.{Room}
+use Rattle.split_views.specs.Fits.{Room}
 use Rattle.split.specs.Split.{Planes, planes, lengthsOf, mainSample, auxSample, viewAfter, splitNumberOf}
 use Rattle.agree_law.specs.Agrees.{pictureOf, Agrees}
 
