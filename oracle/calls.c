@@ -1,5 +1,5 @@
-/* Calls one function of each result type, before anything else links the library: a result that this machine
-   returns in another way than the library does would crash or be wrong here. */
+/* Calls one function of each result type, and of each list of parameters, before anything else links the library: a result
+   that this machine returns in another way than the library does would crash or be wrong here. */
 #include <stdbool.h>
 #include <stddef.h>
 #include <stdint.h>
@@ -10,6 +10,7 @@ typedef struct { uint8_t y, u, v; } Yuv;
 typedef struct { uint8_t bytes[4]; } Pixel;
 typedef struct { uint32_t number; size_t count; } Answer;
 typedef struct { uint32_t number; bool present; size_t start, length; } Row;
+typedef struct { uint32_t number; uint16_t width, height; size_t luma_stride, chroma_stride; } Views;
 
 Yuv haythaw_forward(uint8_t r, uint8_t g, uint8_t b);
 Pixel haythaw_reverse(uint8_t y, uint8_t u, uint8_t v);
@@ -33,11 +34,21 @@ Answer haythaw_to_rgba(uint16_t width, uint16_t height, const uint8_t *y, size_t
 Answer haythaw_view_to_rgba(uint16_t view_width, uint16_t view_height, size_t luma_stride, size_t chroma_stride,
                             const uint8_t *view_y, size_t view_y_count, const uint8_t *view_u, size_t view_u_count,
                             const uint8_t *view_v, size_t view_v_count, uint8_t *out, size_t out_count);
-uint32_t haythaw_apply_main_view(uint16_t width, uint16_t height, uint8_t *y, size_t y_count, uint8_t *u, size_t u_count,
-                                 uint8_t *v, size_t v_count, const uint16_t *rects, size_t rects_count,
-                                 uint16_t view_width, uint16_t view_height, size_t luma_stride, size_t chroma_stride,
-                                 const uint8_t *view_y, size_t view_y_count, const uint8_t *view_u, size_t view_u_count,
-                                 const uint8_t *view_v, size_t view_v_count);
+/* One for each view that is applied: parameters and result are the same. */
+typedef uint32_t Applying(uint16_t width, uint16_t height, uint8_t *y, size_t y_count, uint8_t *u, size_t u_count,
+                          uint8_t *v, size_t v_count, const uint16_t *rects, size_t rects_count,
+                          uint16_t view_width, uint16_t view_height, size_t luma_stride, size_t chroma_stride,
+                          const uint8_t *view_y, size_t view_y_count, const uint8_t *view_u, size_t view_u_count,
+                          const uint8_t *view_v, size_t view_v_count);
+Applying haythaw_apply_main_view, haythaw_apply_auxiliary_v1, haythaw_apply_auxiliary_v2;
+
+/* One for each layout. */
+typedef Views Splitting(uint16_t width, uint16_t height, const uint8_t *y, size_t y_count, const uint8_t *u, size_t u_count,
+                        const uint8_t *v, size_t v_count, uint8_t *main_y, size_t main_y_count,
+                        uint8_t *main_u, size_t main_u_count, uint8_t *main_v, size_t main_v_count,
+                        uint8_t *aux_y, size_t aux_y_count, uint8_t *aux_u, size_t aux_u_count,
+                        uint8_t *aux_v, size_t aux_v_count);
+Splitting haythaw_split_v1, haythaw_split_v2;
 
 static int wrong;
 
@@ -126,6 +137,66 @@ static void try_view_and_picture(void)
     expect("view to RGBA, an answer", answer.number == 0 && answer.count == 4 && memcmp(out, pixel, 4) == 0);
 }
 
+/* Views in which U of an odd column, V of an odd column and so on are each a number of their own go into a picture of 2 by 2. */
+static void try_auxiliary(void)
+{
+    static uint8_t y[256], u[256], v[256];
+    const uint16_t rects[4] = {0, 0, 2, 2};
+
+    /* V1: the odd row comes from luma rows 0 and 8 of a view of 2 by 9. */
+    uint8_t rows[18] = {11, 12};
+    rows[16] = 21;
+    rows[17] = 22;
+    const uint8_t odd_u[5] = {13}, odd_v[5] = {23};
+    expect("auxiliary view V1, a refusal",
+           haythaw_apply_auxiliary_v1(2, 2, y, 256, u, 256, v, 255, rects, 4, 2, 9, 2, 1, rows, 18, odd_u, 5, odd_v, 5) == 1);
+    expect("auxiliary view V1, a number",
+           haythaw_apply_auxiliary_v1(2, 2, y, 256, u, 256, v, 256, rects, 4, 2, 9, 2, 1, rows, 18, odd_u, 5, odd_v, 5) == 0);
+    expect("auxiliary view V1, U", u[0] == 0 && u[1] == 13 && u[16] == 11 && u[17] == 12 && u[18] == 0);
+    expect("auxiliary view V1, V", v[0] == 0 && v[1] == 23 && v[16] == 21 && v[17] == 22 && v[18] == 0);
+
+    /* V2: in a view of 9 by 2, which counts as 16 wide, V stands 8 columns after U in luma and 4 in chroma. */
+    uint8_t columns[18] = {31, 0, 0, 0, 0, 0, 0, 0, 41, 32, 0, 0, 0, 0, 0, 0, 0, 42};
+    const uint8_t fourths_u[5] = {33, 0, 0, 0, 43}, fourths_v[5] = {0};
+    expect("auxiliary view V2, a refusal",
+           haythaw_apply_auxiliary_v2(2, 2, y, 256, u, 256, v, 256, rects, 4, 9, 2, 9, 5, columns, 18, fourths_u, 4, fourths_v, 5) == 4);
+    expect("auxiliary view V2, a number",
+           haythaw_apply_auxiliary_v2(2, 2, y, 256, u, 256, v, 256, rects, 4, 9, 2, 9, 5, columns, 18, fourths_u, 5, fourths_v, 5) == 0);
+    expect("auxiliary view V2, U", u[0] == 0 && u[1] == 31 && u[16] == 33 && u[17] == 32 && u[18] == 0);
+    expect("auxiliary view V2, V", v[0] == 0 && v[1] == 41 && v[16] == 43 && v[17] == 42 && v[18] == 0);
+    expect("auxiliary views, no Y", y[0] == 0 && y[16] == 0);
+}
+
+/* A picture of 2 by 1 is split into views of 16 by 16, and one of 65,521 by 0 into none. */
+static void try_split(void)
+{
+    static uint8_t y[256], u[256], v[256], main_y[256], main_u[64], main_v[64], aux_y[256], aux_u[64], aux_v[64];
+    y[255] = 1;
+    u[0] = 2, u[1] = 3, u[16] = 4;
+    v[0] = 5, v[1] = 6, v[16] = 7;
+
+    Views short_by_one = haythaw_split_v1(2, 1, y, 256, u, 256, v, 256, main_y, 256, main_u, 64, main_v, 64,
+                                          aux_y, 256, aux_u, 64, aux_v, 63);
+    expect("split V1, a refusal", short_by_one.number == 6 && short_by_one.width == 0 && short_by_one.height == 0);
+    expect("split V1, no strides", short_by_one.luma_stride == 0 && short_by_one.chroma_stride == 0 && main_y[255] == 0);
+
+    Views views = haythaw_split_v1(2, 1, y, 256, u, 256, v, 256, main_y, 256, main_u, 64, main_v, 64,
+                                   aux_y, 256, aux_u, 64, aux_v, 64);
+    expect("split V1, a number", views.number == 0);
+    expect("split V1, sizes", views.width == 16 && views.height == 16 && views.luma_stride == 16 && views.chroma_stride == 8);
+    expect("split V1, the main view", main_y[255] == 1 && main_u[0] == 2 && main_v[0] == 5);
+    expect("split V1, the auxiliary view", aux_y[0] == 4 && aux_y[128] == 7 && aux_u[0] == 3 && aux_v[0] == 6);
+
+    views = haythaw_split_v2(2, 1, y, 256, u, 256, v, 256, main_y, 256, main_u, 64, main_v, 64,
+                             aux_y, 256, aux_u, 64, aux_v, 64);
+    expect("split V2, a number", views.number == 0);
+    expect("split V2, sizes", views.width == 16 && views.height == 16 && views.luma_stride == 16 && views.chroma_stride == 8);
+    expect("split V2, the auxiliary view", aux_y[0] == 3 && aux_y[8] == 6 && aux_u[0] == 4 && aux_u[4] == 7 && aux_v[0] == 0);
+
+    views = haythaw_split_v2(65521, 0, y, 0, u, 0, v, 0, main_y, 0, main_u, 0, main_v, 0, aux_y, 0, aux_u, 0, aux_v, 0);
+    expect("split V2, too wide", views.number == 5 && views.width == 0 && views.luma_stride == 0);
+}
+
 int main(void)
 {
     try_bytes();
@@ -133,5 +204,7 @@ int main(void)
     try_payload();
     try_picture();
     try_view_and_picture();
+    try_auxiliary();
+    try_split();
     return wrong;
 }
