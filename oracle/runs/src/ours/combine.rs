@@ -69,4 +69,8 @@ macro_rules! applying {
 applying! {
     /// The main view, within the rectangles of a list.
     apply_main_view is haythaw_apply_main_view;
+    /// The auxiliary view of layout V1, within the rectangles of a list.
+    apply_auxiliary_v1 is haythaw_apply_auxiliary_v1;
+    /// The auxiliary view of layout V2, within the rectangles of a list.
+    apply_auxiliary_v2 is haythaw_apply_auxiliary_v2;
 }

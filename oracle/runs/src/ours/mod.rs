@@ -8,12 +8,14 @@ mod combine;
 mod convert;
 mod payload;
 mod picture;
+mod split;
 mod view;
 
 pub use answer::Answer;
 pub use colour::{average, filter, forward, reverse};
-pub use combine::apply_main_view;
+pub use combine::{apply_auxiliary_v1, apply_auxiliary_v2, apply_main_view};
 pub use convert::{to_rgba, view_to_rgba};
 pub use payload::{avc_to_annex_b, is_avc_format};
 pub use picture::{allocation_size, from_rgba, new, Size};
+pub use split::{split_v1, split_v2, Views};
 pub use view::{luma_row, number, u_row, v_row, Row, View};

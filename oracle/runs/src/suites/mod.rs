@@ -16,6 +16,7 @@ mod noise;
 mod payloads;
 mod pictures;
 mod reverse;
+mod split;
 mod to_rgba;
 mod view;
 mod view_to_rgba;
@@ -48,6 +49,10 @@ pub const SUITES: &[Suite] = &[
     to_rgba::SUITE,
     view_to_rgba::SUITE,
     apply::MAIN_SUITE,
+    apply::V1_SUITE,
+    apply::V2_SUITE,
+    split::V1_SUITE,
+    split::V2_SUITE,
 ];
 
 pub const BENCHES: &[Bench] = &[
@@ -66,6 +71,14 @@ pub const BENCHES: &[Bench] = &[
     view_to_rgba::BENCH,
     apply::MAIN_BENCH,
     apply::MAIN_RECTS_BENCH,
+    apply::V1_BENCH,
+    apply::V1_RECTS_BENCH,
+    apply::V1_SMALL_RECTS_BENCH,
+    apply::V2_BENCH,
+    apply::V2_RECTS_BENCH,
+    apply::V2_SMALL_RECTS_BENCH,
+    split::V1_BENCH,
+    split::V2_BENCH,
 ];
 
 /// Two calls of the library against each other.
@@ -77,6 +90,10 @@ pub const WEIGHINGS: &[Weighing] = &[
     from_rgba::SCALE,
     new::SCALE,
     apply::MAIN_SCALE,
+    apply::V1_SCALE,
+    apply::V2_SCALE,
+    split::V1_SCALE,
+    split::V2_SCALE,
 ];
 
 /// The suite of a name.

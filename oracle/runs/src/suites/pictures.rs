@@ -78,6 +78,11 @@ fn plane_of(Size { width, height }: Size) -> usize {
     usize::from(width).next_multiple_of(16) * usize::from(height).next_multiple_of(16)
 }
 
+/// Whether width and height are each a multiple of 16, one below, or one above.
+pub fn is_about_16(Size { width, height }: Size) -> bool {
+    [width, height].iter().all(|length| matches!(length % 16, 0 | 1 | 15))
+}
+
 /// The buffers that are lent for the planes Y, U and V of a picture.
 #[derive(Clone)]
 pub struct Planes([Lent; 3]);

@@ -134,16 +134,13 @@ impl Source {
     /// The view of these sizes, lent.
     pub fn view(&self, sizes: &Sizes) -> View<'_> {
         let &Sizes { width, height, luma_stride, chroma_stride, lengths } = sizes;
-        let Self([y, u, v]) = self;
-        View {
-            width,
-            height,
-            luma_stride,
-            chroma_stride,
-            y: &y[..lengths[0]],
-            u: &u[..lengths[1]],
-            v: &v[..lengths[2]],
-        }
+        let [y, u, v] = self.planes(lengths);
+        View { width, height, luma_stride, chroma_stride, y, u, v }
+    }
+
+    /// Planes of these lengths.
+    pub fn planes(&self, lengths: [usize; 3]) -> [&[u8]; 3] {
+        [0, 1, 2].map(|plane| &self.0[plane][..lengths[plane]])
     }
 }
 

@@ -7,33 +7,53 @@ use original::decode::Yuv420Frame;
 use original::ExclusiveRectangle;
 
 use super::case::Call;
-use super::MAIN;
+use super::{MAIN, V1, V2};
 use crate::bench::{sample, scale, Bench, Pass, Sides, Weighing, SCALES};
 use crate::suites::lists;
 use crate::suites::noise::{Noise, LONGEST};
 use crate::suites::pictures::{Planes, Sizes};
 use crate::suites::views::{original_of, Owned};
 
-pub const MAIN_BENCH: Bench = Bench {
-    name: "apply_main_view",
-    input: "1920x1080, the whole frame",
-    bound: Some(0.15),
-    sides: || sides(&MAIN, vec![0, 0, 1920, 1080]),
-};
+pub const MAIN_BENCH: Bench =
+    Bench { name: "apply_main_view", input: WHOLE, bound: Some(0.15), sides: || sides(&MAIN, whole()) };
 
-pub const MAIN_RECTS_BENCH: Bench = Bench {
-    name: "apply_main_view_rects",
-    input: "1920x1080, 500 rectangles of about 64x16 with odd edges",
-    bound: Some(0.6),
-    sides: || sides(&MAIN, odd_rects()),
-};
+pub const MAIN_RECTS_BENCH: Bench =
+    Bench { name: "apply_main_view_rects", input: ODD_RECTS, bound: Some(0.6), sides: || sides(&MAIN, odd_rects()) };
 
-pub const MAIN_SCALE: Weighing = Weighing {
-    name: "apply_main_view",
-    input: SCALES,
-    bound: 2.0,
-    passes: || scale(|width, height| pass(&MAIN, width, height, vec![0, 0, width, height])),
-};
+pub const V1_BENCH: Bench =
+    Bench { name: "apply_auxiliary_v1", input: WHOLE, bound: Some(0.70), sides: || sides(&V1, whole()) };
+
+pub const V1_RECTS_BENCH: Bench =
+    Bench { name: "apply_auxiliary_v1_rects", input: ODD_RECTS, bound: Some(1.0), sides: || sides(&V1, odd_rects()) };
+
+pub const V1_SMALL_RECTS_BENCH: Bench =
+    Bench { name: "apply_auxiliary_v1_small", input: SMALL_RECTS, bound: None, sides: || sides(&V1, small_rects()) };
+
+pub const V2_BENCH: Bench =
+    Bench { name: "apply_auxiliary_v2", input: WHOLE, bound: Some(0.40), sides: || sides(&V2, whole()) };
+
+pub const V2_RECTS_BENCH: Bench =
+    Bench { name: "apply_auxiliary_v2_rects", input: ODD_RECTS, bound: Some(1.0), sides: || sides(&V2, odd_rects()) };
+
+pub const V2_SMALL_RECTS_BENCH: Bench =
+    Bench { name: "apply_auxiliary_v2_small", input: SMALL_RECTS, bound: None, sides: || sides(&V2, small_rects()) };
+
+pub const MAIN_SCALE: Weighing =
+    Weighing { name: "apply_main_view", input: SCALES, bound: 2.0, passes: || scaled(&MAIN) };
+
+pub const V1_SCALE: Weighing =
+    Weighing { name: "apply_auxiliary_v1", input: SCALES, bound: 2.0, passes: || scaled(&V1) };
+
+pub const V2_SCALE: Weighing =
+    Weighing { name: "apply_auxiliary_v2", input: SCALES, bound: 2.0, passes: || scaled(&V2) };
+
+const WHOLE: &str = "1920x1080, the whole frame";
+const ODD_RECTS: &str = "1920x1080, 500 rectangles of about 64x16 with odd edges";
+const SMALL_RECTS: &str = "1920x1080, 100 rectangles of 16x16";
+
+fn whole() -> Vec<u16> {
+    vec![0, 0, 1920, 1080]
+}
 
 /// 500 rectangles from 62 by 14 to 65 by 17, whose left and top are odd.
 fn odd_rects() -> Vec<u16> {
@@ -43,6 +63,21 @@ fn odd_rects() -> Vec<u16> {
             [left, top, left + 62 + place % 4, top + 14 + place / 4 % 4]
         })
         .collect()
+}
+
+/// 100 macroblocks, no two of them the same.
+fn small_rects() -> Vec<u16> {
+    (0..100_u16)
+        .flat_map(|place| {
+            let (left, top) = (place * 7 % 120 * 16, place * 13 % 67 * 16);
+            [left, top, left + 16, top + 16]
+        })
+        .collect()
+}
+
+/// The whole of a large and of a small picture.
+fn scaled(call: &'static Call) -> [Pass; 2] {
+    scale(|width, height| pass(call, width, height, vec![0, 0, width, height]))
 }
 
 fn sides(call: &'static Call, list: Vec<u16>) -> Sides {

@@ -25,12 +25,13 @@ pub fn every(run: &mut Run, call: &'static Call) {
     named::every(run, call, &sources);
     for width in 0..=49 {
         for height in 0..=49 {
-            let small = Small { call, sources: &sources, size: Size { width, height } };
+            let size = Size { width, height };
+            let small = Small { call, sources: &sources, size };
             small.edges(run);
             small.crops(run);
             small.unrelated(run);
             small.lists(run);
-            if is_about_16(width) && is_about_16(height) {
+            if pictures::is_about_16(size) {
                 small.refusals(run);
             }
         }
@@ -38,10 +39,6 @@ pub fn every(run: &mut Run, call: &'static Call) {
     while run.more() {
         random_case(run, call, &sources);
     }
-}
-
-fn is_about_16(length: u16) -> bool {
-    matches!(length % 16, 0 | 1 | 15)
 }
 
 /// A picture of the systematic cases.

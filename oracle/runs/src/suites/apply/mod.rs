@@ -1,26 +1,54 @@
-//! `haythaw_apply_main_view` beside `Yuv444Frame::apply_main_view`.
+//! `haythaw_apply_main_view`, `haythaw_apply_auxiliary_v1` and `_v2` beside `Yuv444Frame::apply_main_view` and
+//! `apply_auxiliary_view`.
 
 mod bench;
 mod case;
 mod cases;
 mod named;
 
-use original::avc444::Yuv444Frame;
+use original::avc444::{Avc444Layout, Yuv444Frame};
 
 use self::case::{Call, Case, Sources, LONGEST};
 use super::{lists, pictures, views, Suite};
 use crate::ours;
 use crate::run::Run;
 
-pub use self::bench::{MAIN_BENCH, MAIN_RECTS_BENCH, MAIN_SCALE};
+pub use self::bench::{
+    MAIN_BENCH, MAIN_RECTS_BENCH, MAIN_SCALE, V1_BENCH, V1_RECTS_BENCH, V1_SCALE, V1_SMALL_RECTS_BENCH, V2_BENCH,
+    V2_RECTS_BENCH, V2_SCALE, V2_SMALL_RECTS_BENCH,
+};
 
 const MAIN: Call = Call { ours: ours::apply_main_view, theirs: Yuv444Frame::apply_main_view };
+
+const V1: Call = Call {
+    ours: ours::apply_auxiliary_v1,
+    theirs: |picture, view, rects| picture.apply_auxiliary_view(Avc444Layout::V1, view, rects),
+};
+
+const V2: Call = Call {
+    ours: ours::apply_auxiliary_v2,
+    theirs: |picture, view, rects| picture.apply_auxiliary_view(Avc444Layout::V2, view, rects),
+};
 
 pub const MAIN_SUITE: Suite = Suite {
     name: "apply_main_view",
     about: cases::ABOUT,
     run: |run| cases::every(run, &MAIN),
     replay: |run, words| replay(run, words, &MAIN),
+};
+
+pub const V1_SUITE: Suite = Suite {
+    name: "apply_auxiliary_v1",
+    about: "the cases of apply_main_view",
+    run: |run| cases::every(run, &V1),
+    replay: |run, words| replay(run, words, &V1),
+};
+
+pub const V2_SUITE: Suite = Suite {
+    name: "apply_auxiliary_v2",
+    about: "the cases of apply_main_view",
+    run: |run| cases::every(run, &V2),
+    replay: |run, words| replay(run, words, &V2),
 };
 
 fn replay(run: &mut Run, words: &[u64], call: &'static Call) -> Result<(), String> {

@@ -1,0 +1,67 @@
+//! Both splits timed.
+
+use std::hint::black_box;
+
+use original::avc444::{probe, Avc444Layout, Yuv444Frame};
+use original::decode::Yuv420Frame;
+
+use super::case::{Call, Outputs};
+use super::{V1, V2};
+use crate::bench::{scale, Bench, Pass, Sides, Weighing, SCALES};
+use crate::ours::Views;
+use crate::suites::noise::{Noise, LONGEST};
+use crate::suites::pictures::Sizes;
+
+const INPUT: &str = "1920x1080; the original allocates the views";
+
+pub const V1_BENCH: Bench = Bench { name: "split_v1", input: INPUT, bound: Some(0.5), sides: || sides(&V1) };
+pub const V2_BENCH: Bench = Bench { name: "split_v2", input: INPUT, bound: Some(0.4), sides: || sides(&V2) };
+
+pub const V1_SCALE: Weighing = Weighing { name: "split_v1", input: SCALES, bound: 2.0, passes: || scaled(&V1) };
+pub const V2_SCALE: Weighing = Weighing { name: "split_v2", input: SCALES, bound: 2.0, passes: || scaled(&V2) };
+
+fn scaled(call: &'static Call) -> [Pass; 2] {
+    scale(|width, height| pass(call, width, height))
+}
+
+fn sides(call: &'static Call) -> Sides {
+    let sizes = Sizes::exact(1920, 1080);
+    let picture = probe::with_planes(1920, 1080, Noise::new(LONGEST).planes(0, sizes.lengths));
+    Sides::repeated(2, pass(call, 1920, 1080), move || their_sum(black_box(&picture), call.layout))
+}
+
+/// A call of ours, which answers the number and a sum of bytes of the views.
+fn pass(call: &'static Call, width: u16, height: u16) -> Pass {
+    let sizes = Sizes::exact(width, height);
+    let planes = Noise::new(LONGEST).planes(0, sizes.lengths).map(<[u8]>::to_vec);
+    let mut outputs = Outputs::exact(&sizes).0.map(|length| vec![0; length]);
+    Pass::new(u64::from(width) * u64::from(height), move || {
+        let planes = planes.each_ref().map(|plane| black_box(plane.as_slice()));
+        let views = (call.ours)(sizes.size, planes, outputs.each_mut().map(Vec::as_mut_slice));
+        let Views { number, width, height, luma_stride, chroma_stride } = views;
+        let plane = |at: usize, stride: usize, rows: u16| few(rows.into(), |row| outputs[at].get(row * stride..));
+        let sums = [0, 3].map(|first| {
+            plane(first, luma_stride, height)
+                + plane(first + 1, chroma_stride, height / 2)
+                + plane(first + 2, chroma_stride, height / 2)
+        });
+        u64::from(number) + u64::from(width) + sums.iter().sum::<u64>()
+    })
+}
+
+#[inline(never)]
+fn their_sum(picture: &Yuv444Frame, layout: Avc444Layout) -> u64 {
+    let (main, auxiliary) = picture.split(layout).expect("the picture is not too large");
+    let sum = |view: &Yuv420Frame| {
+        let (rows, half_rows) = (usize::from(view.height()), usize::from(view.height() / 2));
+        few(rows, |row| view.luma_row(row))
+            + few(half_rows, |row| view.u_row(row))
+            + few(half_rows, |row| view.v_row(row))
+    };
+    u64::from(main.width()) + sum(&main) + sum(&auxiliary)
+}
+
+/// A sum over the beginnings of a few rows.
+fn few<'a>(rows: usize, row: impl Fn(usize) -> Option<&'a [u8]>) -> u64 {
+    (0..rows).step_by(67).filter_map(row).filter_map(<[u8]>::first).map(|&byte| u64::from(byte)).sum()
+}

@@ -1,0 +1,47 @@
+//! `haythaw_split_v1` and `_v2` beside `Yuv444Frame::split`.
+
+mod bench;
+mod case;
+mod cases;
+
+use original::avc444::Avc444Layout;
+
+use self::case::{Call, Case, Outputs};
+use super::pictures::Sizes;
+use super::views::{Source, LONGEST};
+use super::Suite;
+use crate::ours;
+use crate::run::Run;
+
+pub use self::bench::{V1_BENCH, V1_SCALE, V2_BENCH, V2_SCALE};
+
+const V1: Call = Call { ours: ours::split_v1, layout: Avc444Layout::V1 };
+const V2: Call = Call { ours: ours::split_v2, layout: Avc444Layout::V2 };
+
+pub const V1_SUITE: Suite = Suite {
+    name: "split_v1",
+    about: cases::ABOUT,
+    run: |run| cases::every(run, &V1),
+    replay: |run, words| replay(run, words, &V1),
+};
+
+pub const V2_SUITE: Suite = Suite {
+    name: "split_v2",
+    about: "the cases of split_v1",
+    run: |run| cases::every(run, &V2),
+    replay: |run, words| replay(run, words, &V2),
+};
+
+fn replay(run: &mut Run, words: &[u64], call: &'static Call) -> Result<(), String> {
+    let words = <[u64; 11]>::try_from(words).map_err(|_| {
+        "a case is width, height, the lengths of Y, U and V, and the lengths of the outputs for the main view's Y, U and V and \
+         the auxiliary view's"
+    })?;
+    let [width, height, y, u, v, outputs @ ..] = words;
+    let sizes = Sizes::of_words([width, height, y, u, v])?;
+    if sizes.lengths.iter().any(|&length| length > LONGEST) {
+        return Err(format!("a plane of a case has at most {LONGEST} bytes"));
+    }
+    Case::new(call, &Source::new(), sizes).check(run, Outputs::of_words(outputs)?);
+    Ok(())
+}
