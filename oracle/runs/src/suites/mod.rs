@@ -16,6 +16,7 @@ mod noise;
 mod payloads;
 mod pictures;
 mod reverse;
+mod round_trip;
 mod split;
 mod to_rgba;
 mod view;
@@ -53,6 +54,7 @@ pub const SUITES: &[Suite] = &[
     apply::V2_SUITE,
     split::V1_SUITE,
     split::V2_SUITE,
+    round_trip::SUITE,
 ];
 
 pub const BENCHES: &[Bench] = &[

@@ -174,6 +174,14 @@ pub fn original_of(view: View<'_>) -> (Result<Yuv420Frame, u32>, [usize; 3]) {
     (made.map_err(|error| number_of(&error)), places)
 }
 
+/// The rows of each plane of the original's view, one after the other.
+pub fn rows_of(view: &Yuv420Frame) -> [Vec<u8>; 3] {
+    fn joined<'a>(row: impl Fn(usize) -> Option<&'a [u8]>) -> Vec<u8> {
+        (0..).map_while(row).collect::<Vec<_>>().concat()
+    }
+    [joined(|row| view.luma_row(row)), joined(|row| view.u_row(row)), joined(|row| view.v_row(row))]
+}
+
 /// The number that the original's words stand for.
 fn number_of(error: &DecoderError) -> u32 {
     match error.to_string().as_str() {

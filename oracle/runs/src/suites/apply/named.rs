@@ -34,6 +34,11 @@ const NAMED: &[Named] = &[
     Named { picture: (62, 16), view: (62, 16), rects: &[[0, 0, 62, 16]] },
     Named { picture: (64, 32), view: (64, 32), rects: &[[0, 0, 64, 32]] },
     Named { picture: (16, 12), view: (16, 12), rects: &[[0, 0, 16, 12]] },
+    // An odd number of macroblocks: a quarter of the width is no multiple of 8.
+    Named { picture: (48, 16), view: (48, 16), rects: &[[0, 0, 48, 16]] },
+    Named { picture: (80, 32), view: (80, 32), rects: &[[0, 0, 80, 32]] },
+    Named { picture: (69, 31), view: (80, 32), rects: &[[3, 5, 69, 31]] },
+    Named { picture: (69, 31), view: (69, 31), rects: &[[3, 5, 69, 31]] },
     // Order and repetition have no effect.
     Named { picture: (64, 32), view: (64, 32), rects: &[[1, 0, 33, 16], [0, 1, 64, 17], [1, 0, 33, 16]] },
     Named { picture: (64, 32), view: (64, 32), rects: &[[0, 1, 64, 17], [1, 0, 33, 16]] },

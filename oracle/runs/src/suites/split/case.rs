@@ -9,7 +9,7 @@ use crate::outcome::{Lent, Outcome};
 use crate::run::Run;
 use crate::suites::lengths;
 use crate::suites::pictures::Sizes;
-use crate::suites::views::{Source, LONGEST};
+use crate::suites::views::{rows_of, Source, LONGEST};
 
 type OurCall = fn(Size, [&[u8]; 3], [&mut [u8]; 6]) -> Views;
 
@@ -61,22 +61,9 @@ impl Made {
     fn new(main: &Yuv420Frame, auxiliary: &Yuv420Frame) -> Self {
         let views = views_of(main);
         assert_eq!(views, views_of(auxiliary), "the original's views differ in size");
-        let (rows, half_rows) = (usize::from(main.height()), usize::from(main.height().div_ceil(2)));
-        let planes = |view: &Yuv420Frame| {
-            [
-                joined(rows, |row| view.luma_row(row)),
-                joined(half_rows, |row| view.u_row(row)),
-                joined(half_rows, |row| view.v_row(row)),
-            ]
-        };
-        let ([y, u, v], [aux_y, aux_u, aux_v]) = (planes(main), planes(auxiliary));
+        let ([y, u, v], [aux_y, aux_u, aux_v]) = (rows_of(main), rows_of(auxiliary));
         Self { views, planes: [y, u, v, aux_y, aux_u, aux_v] }
     }
-}
-
-/// The rows of a plane one after the other.
-fn joined<'a>(rows: usize, row: impl Fn(usize) -> Option<&'a [u8]>) -> Vec<u8> {
-    (0..rows).map(|at| row(at).expect("a row below the height")).collect::<Vec<_>>().concat()
 }
 
 /// The sizes of a view, and its strides as the distance of the first two rows. A view without rows has none to measure: there

@@ -6,7 +6,7 @@ mod cases;
 
 use original::avc444::Avc444Layout;
 
-use self::case::{Call, Case, Outputs};
+use self::case::{Call, Case};
 use super::pictures::Sizes;
 use super::views::{Source, LONGEST};
 use super::Suite;
@@ -14,6 +14,7 @@ use crate::ours;
 use crate::run::Run;
 
 pub use self::bench::{V1_BENCH, V1_SCALE, V2_BENCH, V2_SCALE};
+pub use self::case::Outputs;
 
 const V1: Call = Call { ours: ours::split_v1, layout: Avc444Layout::V1 };
 const V2: Call = Call { ours: ours::split_v2, layout: Avc444Layout::V2 };
