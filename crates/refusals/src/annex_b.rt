@@ -1,7 +1,6 @@
 // Annex B: 6.
 // A line has the number and the count, whether the lent output is as it was, and whether the rest is: the bytes from the count on,
 // those past the lent part among them.
-use crate::say;
 ghost use Prim.Native.Nat.{_≤_};
 ghost use lib.ListN.{length};
 

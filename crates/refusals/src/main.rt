@@ -2,7 +2,6 @@
 // the number, the count, what else the call answers, and whether the lent bytes are as they were before the call.
 // The file `stdout` beside src/ was written by hand from the document. A call's lines are a file of src/ and a line of `main`.
 mod annex_b;
-mod say;
 mod views;
 
 fn main() {

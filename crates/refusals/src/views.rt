@@ -1,7 +1,6 @@
 // Views: 3 and 4, in this order, when a view is made and when a row of it is read.
 // A line has the number and the count of `new`, then for one row of each plane the number, whether it is present, its start and its
 // length; then whether the planes are as they were.
-use crate::say;
 use view::Row;
 use view::View;
 ghost use Prim.Native.Nat.{_≤_, _<_};
@@ -18,15 +17,15 @@ fn sized(width: u16, height: u16, luma_stride: usize, chroma_stride: usize) -> V
 
 fn row_answer(plane: &[u8], r: Row, part: &[u8]) {
     say::text(plane);
-    say::number(r.number as u64);
+    say::number(r.number as usize);
     if r.present {
         say::text(b" present ");
     } else {
         say::text(b" absent ");
     }
-    say::number(r.start as u64);
+    say::number(r.start);
     say::text(b" ");
-    say::number(r.length as u64);
+    say::number(r.length);
     if r.length != part.len() {
         say::text(b", but its part has another length");
     }

@@ -1,5 +1,4 @@
 // A picture from RGBA: 2 and 1, in this order. All bytes of the pixels are 200: Y is 199, U and V are 128.
-use crate::say;
 use picture::Size;
 
 // The call over the first so many bytes of the pixels and of each plane.
@@ -35,8 +34,9 @@ fn line(name: &[u8], width: u16, height: u16, n: usize, ny: usize, nu: usize, nv
     let mut v = [201u8; 257];
     let size = Size { width, height };
     let a = into(&rgba, size, &mut y, &mut u, &mut v, n, ny, nu, nv);
-    say::answer(b"from: ", name, a);
-    say::planes(&y, &u, &v, 201);
+    say::text(b"from: ");
+    say::answer(name, a);
+    say::planes(&y, &u, &v, 201, 256);
     say::read(b", rgba ", &rgba, 200);
     say::text(b"\n");
 }

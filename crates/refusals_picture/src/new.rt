@@ -1,5 +1,4 @@
 // A fresh picture: 1.
-use crate::say;
 use picture::Size;
 
 // The call over the first so many bytes of each plane.
@@ -24,12 +23,10 @@ fn line(name: &[u8], width: u16, height: u16, ny: usize, nu: usize, nv: usize) {
     let mut u = [201u8; 257];
     let mut v = [201u8; 257];
     let size = Size { width, height };
-    say::answer(
-        b"new: ",
-        name,
-        into(size, &mut y, &mut u, &mut v, ny, nu, nv),
-    );
-    say::planes(&y, &u, &v, 201);
+    let a = into(size, &mut y, &mut u, &mut v, ny, nu, nv);
+    say::text(b"new: ");
+    say::answer(name, a);
+    say::planes(&y, &u, &v, 201, 256);
     say::text(b"\n");
 }
 

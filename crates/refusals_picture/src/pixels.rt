@@ -1,5 +1,4 @@
 // A picture to RGBA: 1 and 6, in this order. All bytes of the planes are 128, and so are red, green and blue.
-use crate::say;
 use convert::Rect;
 use picture::Size;
 
@@ -33,7 +32,8 @@ fn line(name: &[u8], size: Size, ny: usize, nu: usize, nv: usize, rect: Rect, ro
     let plane = [128u8; 256];
     let mut out = [201u8; 101];
     let a = into(size, &plane, rect, &mut out, ny, nu, nv, room);
-    say::answer(b"to: ", name, a);
+    say::text(b"to: ");
+    say::answer(name, a);
     say::written(b", out ", &out, 201, a.count);
     say::read(b", planes ", &plane, 128);
     say::text(b"\n");

@@ -1,5 +1,4 @@
 // A view to RGBA: 3, 4 and 6, in this order. All bytes of the planes are 128, and so are red, green and blue.
-use crate::say;
 use view::View;
 
 // The call over the first so many bytes of each plane and of the output. The planes lie in one array.
@@ -30,7 +29,8 @@ fn line(name: &[u8], w: View, ny: usize, nu: usize, nv: usize, room: usize) {
     let plane = [128u8; 32];
     let mut out = [201u8; 101];
     let a = into(w, &plane, &mut out, ny, nu, nv, room);
-    say::answer(b"view: ", name, a);
+    say::text(b"view: ");
+    say::answer(name, a);
     say::written(b", out ", &out, 201, a.count);
     say::read(b", planes ", &plane, 128);
     say::text(b"\n");

@@ -1,5 +1,4 @@
 // The calls: 0 is from RGBA, 1 picture to RGBA, 2 view to RGBA, 3 the main view onto a fresh picture, 4 onto one from RGBA.
-use crate::say;
 use picture::Size;
 use view::View;
 ghost use Prim.Native.Nat.{_<_};
@@ -28,6 +27,33 @@ fn paint(plane: &mut [u8], seed: usize)
     }
 }
 
+// What a conversion to RGBA wrote.
+fn pixels(a: lent::Answer, out: &[u8]) {
+    if a.number != 0 {
+        say::text(b" refused");
+        return;
+    }
+    say::text(b": ");
+    say::number(a.count);
+    say::text(b" ");
+    say::first(out, a.count);
+}
+
+// The planes that a call left, where it was not refused.
+fn planes(number: u32, size: Size, y: &[u8], u: &[u8], v: &[u8]) {
+    if number != 0 {
+        say::text(b" refused");
+        return;
+    }
+    let n = picture::allocation_size(size) / 3;
+    say::text(b": y ");
+    say::first(y, n);
+    say::text(b" u ");
+    say::first(u, n);
+    say::text(b" v ");
+    say::first(v, n);
+}
+
 // A picture of painted pixels.
 fn filled(size: Size, seed: u16, y: &mut [u8], u: &mut [u8], v: &mut [u8]) -> u32 {
     let mut rgba = [0u8; 8192];
@@ -40,7 +66,7 @@ fn from_rgba(c: Call) {
     let mut u = [0u8; 4096];
     let mut v = [0u8; 4096];
     let number = filled(c.size, c.seed, &mut y, &mut u, &mut v);
-    say::planes(number, c.size, &y, &u, &v);
+    planes(number, c.size, &y, &u, &v);
 }
 
 fn to_rgba(c: Call) {
@@ -59,7 +85,7 @@ fn to_rgba(c: Call) {
         bottom: c.rects[3],
     };
     let a = convert::to_rgba(c.size, &y, &u, &v, rect, &mut out);
-    say::pixels(a, &out);
+    pixels(a, &out);
 }
 
 // The painted planes of a view.
@@ -77,7 +103,7 @@ fn view_to_rgba(c: Call) {
     let mut out = [0u8; 8192];
     view_planes(c.view_seed, &mut y, &mut u, &mut v);
     let a = convert::view_to_rgba(c.view, &y, &u, &v, &mut out);
-    say::pixels(a, &out);
+    pixels(a, &out);
 }
 
 // The painted view goes into a picture.
@@ -106,7 +132,7 @@ fn main_view(c: Call, list: &[u16]) {
         return;
     }
     let number = applied(c, list, &mut y, &mut u, &mut v);
-    say::planes(number, c.size, &y, &u, &v);
+    planes(number, c.size, &y, &u, &v);
 }
 
 // The first rectangles of the list, as many as the case counts.

@@ -3,7 +3,6 @@
 // 44 bytes, 22 numbers of two bytes each, little-endian: the call, a picture's width, height and seed, a view's width, height, luma
 // stride, chroma stride and seed, the count of rectangles, and three rectangles. Pixels and a view's planes are made from the seeds.
 mod calls;
-mod say;
 
 use libc::STDIN_FILENO;
 ghost use Prim.Native.Nat.{_+_, _≤_};

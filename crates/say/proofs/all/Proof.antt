@@ -2,8 +2,8 @@
 use Prim.Native.Nat.{_-_, _≤_}
 use borrow.Author.Needs.{needs}
 use lib.ListN.{length}
-use Rattle.refusals_picture.proofs.say.all.Statement.{statement}
-use Rattle.refusals_picture.proofs.say.all.Tie as tie
+use Rattle.say.proofs.all.Statement.{statement}
+use Rattle.say.proofs.all.Tie as tie
 
 abbrev Inv-loop : tie.InvT-loop
 Inv-loop s value i₀ i = i ≤ length s

@@ -3,8 +3,8 @@ use mathlib.Core.Path.{_≡_}
 use Prim.Native.Nat.{_-_, _≤_}
 use borrow.Author.Needs.{needs}
 use lib.ListN.{length}
-use Rattle.refusals.proofs.say.same.Statement.{statement}
-use Rattle.refusals.proofs.say.same.Tie as tie
+use Rattle.say.proofs.same.Statement.{statement}
+use Rattle.say.proofs.same.Tie as tie
 
 abbrev Inv-loop : tie.InvT-loop
 Inv-loop a b i₀ i = (i ≤ length a) × (length a ≡ length b)
