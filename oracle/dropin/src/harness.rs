@@ -87,7 +87,8 @@ fn view_of(view: &View, case: &Picture, auxiliary: Option<Layout>) -> Yuv420Fram
 /// The first columns and rows of a view, as a decoder gives them that reports a cropped picture.
 fn cropped(view: &Yuv420Frame, width: u16, height: u16) -> Yuv420Frame {
     let (width, height) = (width.min(view.width()), height.min(view.height()));
-    let gathered = |row: &dyn Fn(usize) -> Vec<u8>, rows: u16| (0..usize::from(rows)).flat_map(row).collect::<Vec<u8>>();
+    let gathered =
+        |row: &dyn Fn(usize) -> Vec<u8>, rows: u16| (0..usize::from(rows)).flat_map(row).collect::<Vec<u8>>();
     let (luma_width, chroma_width) = (usize::from(width), usize::from(width.div_ceil(2)));
     Yuv420Frame::new(
         width,

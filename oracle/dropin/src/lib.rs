@@ -31,6 +31,27 @@ pub mod over_haythaw {
     include!("harness.rs");
 }
 
+// For the tests, the original's own file avc444.rs once more, unchanged, over our `decode` in place of the original's: what it calls
+// `crate::decode` is `haythaw::decode` here.
+#[cfg(test)]
+#[allow(dead_code)]
+#[rustfmt::skip]
+#[path = "../../build/original/avc444.rs"]
+mod avc444;
+#[cfg(test)]
+use haythaw::decode;
+
+/// The harness over the original's `avc444` and our `decode`.
+#[cfg(test)]
+mod over_both {
+    use crate::avc444::{Avc444Layout, Yuv444Frame};
+    use crate::decode::{DecodedFrame, DecoderError, DecoderResult, Yuv420Frame};
+    use haythaw::pdu::{avc_to_annex_b_into, is_avc_format};
+    use ironrdp_pdu::geometry::ExclusiveRectangle;
+
+    include!("harness.rs");
+}
+
 #[cfg(test)]
 mod tests {
     use super::*;
@@ -46,6 +67,7 @@ mod tests {
             }
             let (theirs, ours) = (over_original::trace(&case), over_haythaw::trace(&case));
             assert_eq!(theirs.difference(&ours), None, "case {number}: {case:?}");
+            assert_eq!(theirs.difference(&over_both::trace(&case)), None, "case {number}, mixed: {case:?}");
             seen.extend(ours.calls().map(|(call, _)| call));
         }
         assert_eq!(seen, trace::CALLS.into_iter().collect());
