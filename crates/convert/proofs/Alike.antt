@@ -12,7 +12,7 @@ use Rattle.view.specs.declared.View.{View}
 use Rattle.view.specs.View.{viewNumberOf}
 use Rattle.view.specs.Alike.{Alike}
 use Rattle.convert.specs.Pictured.{pictured}
-use Rattle.convert.specs.Rules.{viewPixelAt}
+use Rattle.convert_rows.specs.Rules.{viewPixelAt}
 use Rattle.convert.specs.View.{viewToRgbaCountOf, viewToRgbaNumberOf, viewToRgbaOf}
 use Rattle.convert.proofs.Pictured.{pictured-ext}
 use Rattle.convert.proofs.Exactly.{view-rgba-0-exactly, view-rgba-6-exactly}

@@ -1,6 +1,5 @@
 -- The laws of both conversions: what is written, which numbers are given exactly when, and how a call ends.
 pub mod Pictured
-pub mod Rules
 pub mod Exactly
 pub mod Ends
 pub mod Picture

@@ -13,9 +13,9 @@ use Rattle.picture.specs.Sizes.{strideOf, rowsOf}
 use Rattle.picture.proofs.Sizes.{planes-fit}
 use Rattle.convert.specs.declared.Rect.{Rect}
 use Rattle.convert.specs.Pictured.{pictured, shifted}
-use Rattle.convert.specs.Rules.{pixelAt}
+use Rattle.convert_rows.specs.Rules.{pixelAt}
 use Rattle.convert.specs.Picture.{acrossOf, downOf, toRgbaCountOf, toRgbaNumberOf, toRgbaOf}
-use Rattle.convert.specs.Fits.{RowsFit}
+use Rattle.convert_rows.specs.Fits.{RowsFit}
 use Rattle.convert.proofs.Pictured.{bytes-of, some-column, some-row, pictured-empty}
 use Rattle.convert.proofs.Exactly.{rgba-0-exactly, rgba-6-exactly}
 

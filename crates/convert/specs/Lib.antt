@@ -1,6 +1,5 @@
 -- What the two conversions to RGBA answer and write.
 pub mod Pictured
-pub mod Rules
 pub mod Picture
 pub mod View
 pub mod Fits

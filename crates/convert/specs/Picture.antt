@@ -17,7 +17,7 @@ use Rattle.picture.specs.declared.Size.{Size}
 use Rattle.picture.specs.Sizes.{strideOf, planesShort}
 use Rattle.convert.specs.declared.Rect.{Rect}
 use Rattle.convert.specs.Pictured.{pictured, shifted}
-use Rattle.convert.specs.Rules.{pixelAt}
+use Rattle.convert_rows.specs.Rules.{pixelAt}
 
 abbrev pub clippedOf : ℕ → ℕ → ℕ → ℕ
 clippedOf a b n = min b n - a

@@ -11,7 +11,7 @@ use Rattle.lent.specs.Refusal.{refusal}
 use Rattle.view.specs.declared.View.{View}
 use Rattle.view.specs.View.{narrow, planeShort}
 use Rattle.convert.specs.Pictured.{pictured}
-use Rattle.convert.specs.Rules.{viewPixelAt}
+use Rattle.convert_rows.specs.Rules.{viewPixelAt}
 
 abbrev pub viewToRgbaCountOf : View → ℕ
 viewToRgbaCountOf w = 4 * (w .width * w .height)

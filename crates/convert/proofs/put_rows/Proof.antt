@@ -6,7 +6,7 @@ use mathlib.Core.Path.{_≡_, refl, _∙_}
 use borrow.Author.Needs.{needs}
 use lib.ListN.{length}
 use Rattle.convert.specs.Pictured.{picturedTo, shifted}
-use Rattle.convert.specs.Rules.{pixelAt}
+use Rattle.convert_rows.specs.Rules.{pixelAt}
 use Rattle.convert.proofs.Pictured.{row-room, pictured-none, pictured-more, pictured-all}
 use Rattle.convert.proofs.put_rows.Statement.{statement}
 use Rattle.convert.proofs.put_rows.Tie as tie

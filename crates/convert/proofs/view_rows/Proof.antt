@@ -8,7 +8,7 @@ use lib.ListN.{length}
 use Rattle.colour.specs.Colour.{reverseOf}
 use Rattle.lent.proofs.Cells.{row-in}
 use Rattle.convert.specs.Pictured.{picturedTo}
-use Rattle.convert.specs.Rules.{viewPixelAt}
+use Rattle.convert_rows.specs.Rules.{viewPixelAt}
 use Rattle.convert.proofs.Pictured.{row-room, pictured-none, pictured-more, pictured-all}
 use Rattle.convert.proofs.view_rows.Statement.{statement}
 use Rattle.convert.proofs.view_rows.Tie as tie

@@ -1,4 +1,4 @@
--- `convert::odd_row` meets its contract. The invariant: the first i pixels are done.
+-- `convert_rows::odd_row` meets its contract. The invariant: the first i pixels are done.
 -- Assumes nothing.
 use Prim.Native.Nat.{_-_, _≤_}
 use native.Mathlib.Omega.{arith}
@@ -7,11 +7,10 @@ use borrow.Author.Needs.{needs}
 use lib.ListN.{length}
 use Rattle.lent.specs.Pixels.{done}
 use Rattle.lent.proofs.Pixels.{done-none, done-all}
-use Rattle.convert.specs.Pictured.{rowFrom}
-use Rattle.convert.specs.Rules.{pixelAt}
-use Rattle.convert.proofs.Rules.{odd-row-step}
-use Rattle.convert.proofs.odd_row.Statement.{statement}
-use Rattle.convert.proofs.odd_row.Tie as tie
+use Rattle.convert_rows.specs.Rules.{pixelAt, rowFrom}
+use Rattle.convert_rows.proofs.Rules.{odd-row-step}
+use Rattle.convert_rows.proofs.odd_row.Statement.{statement}
+use Rattle.convert_rows.proofs.odd_row.Tie as tie
 
 abbrev Inv-loop : tie.InvT-loop
 Inv-loop out₀ y u v stride row left n at i₀ out i =

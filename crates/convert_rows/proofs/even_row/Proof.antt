@@ -1,4 +1,4 @@
--- `convert::even_row` meets its contract. The invariant: in whatever row the pixels before the loop were done, those of i pairs more are done.
+-- `convert_rows::even_row` meets its contract. The invariant: in whatever row the pixels before the loop were done, those of i pairs more are done.
 -- Assumes nothing.
 use Prim.Native.Nat.{ℕ, _+_, _*_, _/_, _%_, _-_, _≤_}
 use native.Mathlib.Omega.{arith}
@@ -8,11 +8,10 @@ use borrow.Author.Needs.{needs}
 use lib.ListN.{length}
 use Rattle.lent.specs.Pixels.{done}
 use Rattle.lent.proofs.Pixels.{done-at, done-all}
-use Rattle.convert.specs.Pictured.{rowFrom}
-use Rattle.convert.specs.Rules.{pixelAt}
-use Rattle.convert.proofs.Rules.{odd-col-step, even-step}
-use Rattle.convert.proofs.even_row.Statement.{statement}
-use Rattle.convert.proofs.even_row.Tie as tie
+use Rattle.convert_rows.specs.Rules.{pixelAt, rowFrom}
+use Rattle.convert_rows.proofs.Rules.{odd-col-step, even-step}
+use Rattle.convert_rows.proofs.even_row.Statement.{statement}
+use Rattle.convert_rows.proofs.even_row.Tie as tie
 
 abbrev Inv-loop : tie.InvT-loop
 Inv-loop out₀ y u v stride row left n at first pairs i₀ out i =

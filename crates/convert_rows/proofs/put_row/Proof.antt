@@ -1,13 +1,13 @@
--- `convert::put_row` meets its contract: an even row of an even number of rows has a row below it, which the filter reads. So it is at
+-- `convert_rows::put_row` meets its contract: an even row of an even number of rows has a row below it, which the filter reads. So it is at
 -- most rows - 2, and the least of the two is the row itself.
 -- Assumes nothing.
 use native.Mathlib.Omega.{arith}
 use borrow.Author.Needs.{needs}
 use mathlib.Core.Path.{_≡_}
 use Rattle.lent.proofs.Cells.{row-in}
-use Rattle.convert.proofs.Rules.{two-rows}
-use Rattle.convert.proofs.put_row.Statement.{statement}
-use Rattle.convert.proofs.put_row.Tie as tie
+use Rattle.convert_rows.proofs.Rules.{two-rows}
+use Rattle.convert_rows.proofs.put_row.Statement.{statement}
+use Rattle.convert_rows.proofs.put_row.Tie as tie
 
 sub-least : tie.Need-sub-least
 sub-least c = search needs

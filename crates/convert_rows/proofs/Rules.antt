@@ -15,8 +15,7 @@ use Rattle.lent.specs.Pixels.{stored, done}
 use Rattle.lent.proofs.Pixels.{done-step}
 use Rattle.lent.proofs.Cells.{row-in}
 use Rattle.lent.proofs.Bools.{never-true, both, both-left, both-right}
-use Rattle.convert.specs.Pictured.{rowFrom}
-use Rattle.convert.specs.Rules.{cornersAt, chromaAt, pixelAt, viewPixelAt}
+use Rattle.convert_rows.specs.Rules.{cornersAt, chromaAt, pixelAt, viewPixelAt, rowFrom}
 
 next-row : (stride row : ℕ) → (row + 1) * stride ≡ row * stride + stride
 next-row stride row = ap (λ (n : ℕ). n * stride) (add-one row) ∙ suc-mul row stride

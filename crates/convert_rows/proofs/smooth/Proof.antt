@@ -1,11 +1,11 @@
--- `convert::smooth` meets its contract: both chroma samples are filtered, and then there is one reverse.
+-- `convert_rows::smooth` meets its contract: both chroma samples are filtered, and then there is one reverse.
 -- Assumes nothing.
 use mathlib.Core.Path.{_∙_}
 use borrow.Author.Needs.{needs}
 use lib.ListN.{getD}
 use Rattle.colour.specs.Colour.{reverseOf}
-use Rattle.convert.proofs.smooth.Statement.{statement}
-use Rattle.convert.proofs.smooth.Tie as tie
+use Rattle.convert_rows.proofs.smooth.Statement.{statement}
+use Rattle.convert_rows.proofs.smooth.Tie as tie
 
 smoothed-requires : tie.Need-smoothed-requires
 smoothed-requires c κs = search needs

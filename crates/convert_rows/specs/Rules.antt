@@ -6,6 +6,7 @@
 --   pixelAt stride y u v            a pixel of the 4:4:4 picture
 --   viewPixelAt m luma chroma y u v a pixel of a view, by the colour matrix m: "no filter and uses chroma at row/2, column/2"; luma and
 --                                   chroma are the strides
+--   rowFrom left f                  a row of pixels f, as it is seen from column `left` on
 use Prim.Native.Nat.{ℕ, _+_, _/_, _%_}
 use mathlib.Core.Bool.{cond, _&&_}
 use mathlib.Core.List.{List, [], _∷_}
@@ -28,3 +29,6 @@ pixelAt stride y u v r c = reverseOf (sample y stride r c) (chromaAt u stride r 
 
 unfoldable pub viewPixelAt : (ℕ → ℕ → ℕ → List ℕ) → ℕ → ℕ → List ℕ → List ℕ → List ℕ → ℕ → ℕ → List ℕ
 viewPixelAt m luma chroma y u v r c = m (sample y luma r c) (sample u chroma (r / 2) (c / 2)) (sample v chroma (r / 2) (c / 2))
+
+abbrev pub rowFrom : ℕ → (ℕ → List ℕ) → ℕ → List ℕ
+rowFrom left f c = f (left + c)

@@ -1,0 +1,2 @@
+-- What one pixel more does to a row.
+pub mod Rules
