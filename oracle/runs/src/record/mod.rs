@@ -2,6 +2,7 @@
 //!
 //! Nothing here calls the library.
 
+mod layouts;
 mod payloads;
 mod pictures;
 mod views;
@@ -19,7 +20,7 @@ pub struct Sample {
 
 /// The samples of a seed, one for each program.
 pub fn samples(seed: u64) -> Vec<Sample> {
-    vec![payloads::sample(seed), views::sample(seed), pictures::sample(seed)]
+    vec![payloads::sample(seed), views::sample(seed), pictures::sample(seed), layouts::sample(seed)]
 }
 
 /// Adler-32 (RFC 1950), which the programs take too.

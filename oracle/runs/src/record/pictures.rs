@@ -36,7 +36,7 @@ struct View {
 }
 
 /// Left, top, right, bottom.
-type Rect = [u16; 4];
+pub type Rect = [u16; 4];
 
 struct Case {
     call: Call,
@@ -66,7 +66,7 @@ fn bytes(seed: usize, count: usize) -> Vec<u8> {
     (0..count).map(next).collect()
 }
 
-fn exclusive([left, top, right, bottom]: Rect) -> ExclusiveRectangle {
+pub fn exclusive([left, top, right, bottom]: Rect) -> ExclusiveRectangle {
     ExclusiveRectangle { left, top, right, bottom }
 }
 
@@ -163,7 +163,7 @@ fn up_to(most: u16, random: &mut Random) -> u16 {
 }
 
 /// Edges up to three past the picture: of four rectangles one has them as they come, so that many of these are empty, reversed or off it.
-fn any_rect(width: u16, height: u16, random: &mut Random) -> Rect {
+pub fn any_rect(width: u16, height: u16, random: &mut Random) -> Rect {
     let [left, top, right, bottom] = [width, height, width, height].map(|most| up_to(most + 3, random));
     if random.between(0, 3) == 0 {
         [left, top, right, bottom]

@@ -21,7 +21,7 @@ mod split;
 mod to_rgba;
 mod view;
 mod view_to_rgba;
-mod views;
+pub(crate) mod views;
 
 use crate::bench::{Bench, Weighing};
 use crate::run::Run;
