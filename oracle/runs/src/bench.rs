@@ -6,12 +6,27 @@ use std::time::{Duration, Instant};
 /// A call to time.
 pub struct Bench {
     pub name: &'static str,
-    /// What it is timed on, in words.
+    /// What it is timed on, in words; after a frame's size, where it is timed on frames.
     pub input: &'static str,
-    /// What the ratio is to be at most, if that is laid down.
+    /// What the ratio is to be at most, if that is laid down; on frames, at 1920x1080.
     pub bound: Option<f64>,
-    /// Makes the input and both sides over it.
-    pub sides: fn() -> Sides,
+    pub over: Over,
+}
+
+/// Makes the input and both sides over it.
+pub enum Over {
+    One(fn() -> Sides),
+    /// Frames of each size of `FRAMES`.
+    Frames(fn(u16, u16) -> Sides),
+}
+
+const FRAMES: [(u16, u16); 3] = [(640, 480), (1920, 1080), (3840, 2160)];
+
+/// An input that a bench is timed on.
+pub struct Timed {
+    pub input: String,
+    pub bound: Option<f64>,
+    pub times: Times,
 }
 
 /// One pass over the same input by each side. A pass answers a sum of what it was answered.
@@ -42,9 +57,24 @@ pub struct Times {
 }
 
 impl Bench {
+    /// Times both sides on each input.
+    pub fn run(&self, rounds: u32) -> Vec<Timed> {
+        match self.over {
+            Over::One(sides) => {
+                vec![Timed { input: self.input.to_owned(), bound: self.bound, times: self.least(sides(), rounds) }]
+            }
+            Over::Frames(sides) => FRAMES
+                .map(|(width, height)| Timed {
+                    input: format!("{width}x{height}{}", self.input),
+                    bound: self.bound.filter(|_| width == 1920),
+                    times: self.least(sides(width, height), rounds),
+                })
+                .into(),
+        }
+    }
+
     /// Runs both sides in turns and keeps the least time of each.
-    pub fn run(&self, rounds: u32) -> Times {
-        let mut sides = (self.sides)();
+    fn least(&self, mut sides: Sides, rounds: u32) -> Times {
         let mut least = Times { calls: sides.calls, ours: Duration::MAX, theirs: Duration::MAX };
         for _ in 0..rounds {
             let (ours, our_time) = timed(&mut sides.ours);

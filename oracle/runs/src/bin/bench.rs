@@ -4,6 +4,7 @@ use std::fs;
 use std::process::{Command, ExitCode};
 use std::time::Duration;
 
+use runs::bench::Timed;
 use runs::suites::{BENCHES, WEIGHINGS};
 use runs::table::aligned;
 
@@ -38,17 +39,18 @@ fn beside_the_original(wanted: impl Fn(&str) -> bool) -> Vec<Vec<String>> {
     let mut rows = vec![head.map(str::to_owned).to_vec()];
     for bench in BENCHES.iter().filter(|bench| wanted(bench.name)) {
         eprintln!("{} ...", bench.name);
-        let times = bench.run(ROUNDS);
-        let ratio = times.ours.as_secs_f64() / times.theirs.as_secs_f64();
-        rows.push(vec![
-            bench.name.to_owned(),
-            bench.input.to_owned(),
-            milliseconds(times.ours),
-            milliseconds(times.theirs),
-            format!("{ratio:.2}"),
-            bench.bound.map_or("none".to_owned(), |bound| held(ratio, bound)),
-            format!("{:.1}", times.ours.as_secs_f64() * 1e9 / times.calls as f64),
-        ]);
+        for Timed { input, bound, times } in bench.run(ROUNDS) {
+            let ratio = times.ours.as_secs_f64() / times.theirs.as_secs_f64();
+            rows.push(vec![
+                bench.name.to_owned(),
+                input,
+                milliseconds(times.ours),
+                milliseconds(times.theirs),
+                format!("{ratio:.2}"),
+                bound.map_or("none".to_owned(), |bound| held(ratio, bound)),
+                format!("{:.1}", times.ours.as_secs_f64() * 1e9 / times.calls as f64),
+            ]);
+        }
     }
     rows
 }

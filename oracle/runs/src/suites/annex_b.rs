@@ -11,7 +11,7 @@ use original::pdu;
 
 use super::payloads::{self, Payload};
 use super::Suite;
-use crate::bench::{Bench, Sides};
+use crate::bench::{Bench, Over, Sides};
 use crate::ours;
 use crate::outcome::{Lent, Outcome};
 use crate::run::Run;
@@ -27,7 +27,7 @@ pub const BENCH: Bench = Bench {
     name: "annex_b",
     input: "285 units of 1,400 bytes; the original's Vec is long enough",
     bound: None,
-    sides: || {
+    over: Over::One(|| {
         const CALLS: u64 = 50;
         let payload: Rc<[u8]> = payloads::units(&[1400; 285]).into();
         let same = Rc::clone(&payload);
@@ -44,7 +44,7 @@ pub const BENCH: Bench = Bench {
                 (0..CALLS).map(|_| their_count(black_box(&same), black_box(&mut their_out))).sum()
             }),
         }
-    },
+    }),
 };
 
 #[inline(never)]

@@ -7,7 +7,7 @@ use original::pdu;
 
 use super::payloads::{self, Payload};
 use super::Suite;
-use crate::bench::{Bench, Sides};
+use crate::bench::{Bench, Over, Sides};
 use crate::ours;
 use crate::run::Run;
 
@@ -22,7 +22,7 @@ pub const BENCH: Bench = Bench {
     name: "avc_format",
     input: "285 units of 1,400 bytes",
     bound: None,
-    sides: || {
+    over: Over::One(|| {
         const CALLS: u64 = 1000;
         let payload: Rc<[u8]> = payloads::units(&[1400; 285]).into();
         let same = Rc::clone(&payload);
@@ -31,7 +31,7 @@ pub const BENCH: Bench = Bench {
             ours: Box::new(move || (0..CALLS).map(|_| u64::from(ours::is_avc_format(black_box(&payload)))).sum()),
             theirs: Box::new(move || (0..CALLS).map(|_| u64::from(is_avc_format(black_box(&same)))).sum()),
         }
-    },
+    }),
 };
 
 #[inline(never)]

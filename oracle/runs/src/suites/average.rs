@@ -3,7 +3,7 @@
 use original::avc444::probe;
 
 use super::{bytes, Suite};
-use crate::bench::Bench;
+use crate::bench::{Bench, Over};
 use crate::ours;
 use crate::run::Run;
 
@@ -18,9 +18,9 @@ pub const BENCH: Bench = Bench {
     name: "average",
     input: bytes::INPUT,
     bound: None,
-    sides: || {
+    over: Over::One(|| {
         bytes::sides(|[a, b, c, d]| ours::average(a, b, c, d).into(), |[a, b, c, d]| probe::average(a, b, c, d).into())
-    },
+    }),
 };
 
 fn every_sum(run: &mut Run) {

@@ -3,7 +3,7 @@
 use original::avc444::probe;
 
 use super::{bytes, Suite};
-use crate::bench::Bench;
+use crate::bench::{Bench, Over};
 use crate::ours;
 use crate::run::Run;
 
@@ -18,12 +18,12 @@ pub const BENCH: Bench = Bench {
     name: "forward",
     input: bytes::INPUT,
     bound: None,
-    sides: || {
+    over: Over::One(|| {
         bytes::sides(
             |[r, g, b, _]| bytes::as_number(ours::forward(r, g, b)),
             |[r, g, b, _]| bytes::as_number(probe::forward(r, g, b)),
         )
-    },
+    }),
 };
 
 fn check(run: &mut Run, place: u64, [r, g, b]: [u8; 3]) {

@@ -7,7 +7,7 @@ use original::avc444::{probe, Yuv444Frame};
 use super::noise::{Noise, LONGEST};
 use super::pictures::{Planes, Sizes};
 use super::{lengths, Suite};
-use crate::bench::{sample, scale, Bench, Pass, Sides, Weighing, SCALES};
+use crate::bench::{sample, scale, Bench, Over, Pass, Sides, Weighing, SCALES};
 use crate::ours::{self, Size};
 use crate::outcome::Outcome;
 use crate::run::Run;
@@ -23,12 +23,12 @@ random: sizes to 1,024 by 1,024, or 4,096 wide or high, seldom with something to
 
 pub const BENCH: Bench = Bench {
     name: "from_rgba",
-    input: "1920x1080; the original allocates the planes",
+    input: "; the original allocates the planes",
     bound: Some(0.70),
-    sides: || {
-        let pixels = Noise::new(LONGEST).bytes(0, 1920 * 1080 * 4).to_vec();
-        Sides::repeated(2, pass(1920, 1080), move || their_sum(black_box(&pixels), 1920, 1080))
-    },
+    over: Over::Frames(|width, height| {
+        let pixels = Noise::new(LONGEST).bytes(0, exact(Sizes::exact(width, height).size)).to_vec();
+        Sides::repeated(2, pass(width, height), move || their_sum(black_box(&pixels), width, height))
+    }),
 };
 
 pub const SCALE: Weighing = Weighing { name: "from_rgba", input: SCALES, bound: 2.0, passes: || scale(pass) };

@@ -5,7 +5,7 @@ use original::avc444::{probe, Yuv444Frame};
 use super::noise::{Noise, LONGEST};
 use super::pictures::{Planes, Sizes};
 use super::Suite;
-use crate::bench::{sample, scale, Bench, Pass, Sides, Weighing, SCALES};
+use crate::bench::{sample, scale, Bench, Over, Pass, Sides, Weighing, SCALES};
 use crate::ours;
 use crate::outcome::Outcome;
 use crate::run::Run;
@@ -20,9 +20,9 @@ random: sizes to 1,024 by 1,024, or 4,096 wide or high, seldom with a buffer too
 
 pub const BENCH: Bench = Bench {
     name: "new",
-    input: "1920x1080; the original allocates, and the zeros of Y come with that",
+    input: "; the original allocates, and the zeros of Y come with that",
     bound: None,
-    sides: || Sides::repeated(8, pass(1920, 1080), || their_sum(1920, 1080)),
+    over: Over::Frames(|width, height| Sides::repeated(8, pass(width, height), move || their_sum(width, height))),
 };
 
 pub const SCALE: Weighing = Weighing { name: "new", input: SCALES, bound: 2.0, passes: || scale(pass) };

@@ -3,7 +3,7 @@
 use original::avc444::probe;
 
 use super::{bytes, Suite};
-use crate::bench::Bench;
+use crate::bench::{Bench, Over};
 use crate::ours;
 use crate::run::Run;
 
@@ -18,12 +18,12 @@ pub const BENCH: Bench = Bench {
     name: "reverse",
     input: bytes::INPUT,
     bound: None,
-    sides: || {
+    over: Over::One(|| {
         bytes::sides(
             |[y, u, v, _]| bytes::as_number(ours::reverse(y, u, v)),
             |[y, u, v, _]| bytes::as_number(probe::reverse(y, u, v)),
         )
-    },
+    }),
 };
 
 fn check(run: &mut Run, place: u64, [y, u, v]: [u8; 3]) {

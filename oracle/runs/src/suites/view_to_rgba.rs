@@ -10,7 +10,7 @@ use super::lengths::changed;
 use super::noise::{Noise, LONGEST};
 use super::views::{self, original_of, Owned, Sizes, Source};
 use super::Suite;
-use crate::bench::{sample, scale, Bench, Pass, Sides, Weighing, SCALES};
+use crate::bench::{sample, scale, Bench, Over, Pass, Sides, Weighing, SCALES};
 use crate::ours::{self, View};
 use crate::outcome::{Lent, Outcome};
 use crate::run::Run;
@@ -97,13 +97,13 @@ fn all_views(run: &mut Run) {
 
 pub const BENCH: Bench = Bench {
     name: "view_to_rgba",
-    input: "1920x1080, strides of 1920 and 960; the original allocates its answer",
+    input: ", strides the widths; the original allocates its answer",
     bound: Some(0.25),
-    sides: || {
-        let view = Owned::new(&Noise::new(LONGEST), 1920, 1080);
+    over: Over::Frames(|width, height| {
+        let view = Owned::new(&Noise::new(LONGEST), width, height);
         let frame = original_of(view.view()).0.expect("the planes are exact");
-        Sides::repeated(2, pass(1920, 1080), move || their_sum(black_box(&frame)))
-    },
+        Sides::repeated(2, pass(width, height), move || their_sum(black_box(&frame)))
+    }),
 };
 
 pub const SCALE: Weighing = Weighing { name: "view_to_rgba", input: SCALES, bound: 2.0, passes: || scale(pass) };

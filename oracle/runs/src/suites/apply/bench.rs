@@ -8,35 +8,55 @@ use original::ExclusiveRectangle;
 
 use super::case::Call;
 use super::{MAIN, V1, V2};
-use crate::bench::{sample, scale, Bench, Pass, Sides, Weighing, SCALES};
+use crate::bench::{sample, scale, Bench, Over, Pass, Sides, Weighing, SCALES};
 use crate::suites::lists;
 use crate::suites::noise::{Noise, LONGEST};
 use crate::suites::pictures::{Planes, Sizes};
 use crate::suites::views::{original_of, Owned};
 
 pub const MAIN_BENCH: Bench =
-    Bench { name: "apply_main_view", input: WHOLE, bound: Some(0.15), sides: || sides(&MAIN, whole()) };
+    Bench { name: "apply_main_view", input: WHOLE, bound: Some(0.15), over: Over::Frames(|w, h| whole(&MAIN, w, h)) };
 
-pub const MAIN_RECTS_BENCH: Bench =
-    Bench { name: "apply_main_view_rects", input: ODD_RECTS, bound: Some(0.6), sides: || sides(&MAIN, odd_rects()) };
+pub const MAIN_RECTS_BENCH: Bench = Bench {
+    name: "apply_main_view_rects",
+    input: ODD_RECTS,
+    bound: Some(0.6),
+    over: Over::One(|| sides(&MAIN, 1920, 1080, odd_rects())),
+};
 
 pub const V1_BENCH: Bench =
-    Bench { name: "apply_auxiliary_v1", input: WHOLE, bound: Some(0.70), sides: || sides(&V1, whole()) };
+    Bench { name: "apply_auxiliary_v1", input: WHOLE, bound: Some(0.70), over: Over::Frames(|w, h| whole(&V1, w, h)) };
 
-pub const V1_RECTS_BENCH: Bench =
-    Bench { name: "apply_auxiliary_v1_rects", input: ODD_RECTS, bound: Some(1.0), sides: || sides(&V1, odd_rects()) };
+pub const V1_RECTS_BENCH: Bench = Bench {
+    name: "apply_auxiliary_v1_rects",
+    input: ODD_RECTS,
+    bound: Some(1.0),
+    over: Over::One(|| sides(&V1, 1920, 1080, odd_rects())),
+};
 
-pub const V1_SMALL_RECTS_BENCH: Bench =
-    Bench { name: "apply_auxiliary_v1_small", input: SMALL_RECTS, bound: None, sides: || sides(&V1, small_rects()) };
+pub const V1_SMALL_RECTS_BENCH: Bench = Bench {
+    name: "apply_auxiliary_v1_small",
+    input: SMALL_RECTS,
+    bound: None,
+    over: Over::One(|| sides(&V1, 1920, 1080, small_rects())),
+};
 
 pub const V2_BENCH: Bench =
-    Bench { name: "apply_auxiliary_v2", input: WHOLE, bound: Some(0.40), sides: || sides(&V2, whole()) };
+    Bench { name: "apply_auxiliary_v2", input: WHOLE, bound: Some(0.40), over: Over::Frames(|w, h| whole(&V2, w, h)) };
 
-pub const V2_RECTS_BENCH: Bench =
-    Bench { name: "apply_auxiliary_v2_rects", input: ODD_RECTS, bound: Some(1.0), sides: || sides(&V2, odd_rects()) };
+pub const V2_RECTS_BENCH: Bench = Bench {
+    name: "apply_auxiliary_v2_rects",
+    input: ODD_RECTS,
+    bound: Some(1.0),
+    over: Over::One(|| sides(&V2, 1920, 1080, odd_rects())),
+};
 
-pub const V2_SMALL_RECTS_BENCH: Bench =
-    Bench { name: "apply_auxiliary_v2_small", input: SMALL_RECTS, bound: None, sides: || sides(&V2, small_rects()) };
+pub const V2_SMALL_RECTS_BENCH: Bench = Bench {
+    name: "apply_auxiliary_v2_small",
+    input: SMALL_RECTS,
+    bound: None,
+    over: Over::One(|| sides(&V2, 1920, 1080, small_rects())),
+};
 
 pub const MAIN_SCALE: Weighing =
     Weighing { name: "apply_main_view", input: SCALES, bound: 2.0, passes: || scaled(&MAIN) };
@@ -47,12 +67,12 @@ pub const V1_SCALE: Weighing =
 pub const V2_SCALE: Weighing =
     Weighing { name: "apply_auxiliary_v2", input: SCALES, bound: 2.0, passes: || scaled(&V2) };
 
-const WHOLE: &str = "1920x1080, the whole frame";
+const WHOLE: &str = ", the whole frame";
 const ODD_RECTS: &str = "1920x1080, 500 rectangles of about 64x16 with odd edges";
 const SMALL_RECTS: &str = "1920x1080, 100 rectangles of 16x16";
 
-fn whole() -> Vec<u16> {
-    vec![0, 0, 1920, 1080]
+fn whole(call: &'static Call, width: u16, height: u16) -> Sides {
+    sides(call, width, height, vec![0, 0, width, height])
 }
 
 /// 500 rectangles from 62 by 14 to 65 by 17, whose left and top are odd.
@@ -80,13 +100,13 @@ fn scaled(call: &'static Call) -> [Pass; 2] {
     scale(|width, height| pass(call, width, height, vec![0, 0, width, height]))
 }
 
-fn sides(call: &'static Call, list: Vec<u16>) -> Sides {
+fn sides(call: &'static Call, width: u16, height: u16, list: Vec<u16>) -> Sides {
     let noise = Noise::new(LONGEST);
-    let sizes = Sizes::exact(1920, 1080);
+    let sizes = Sizes::exact(width, height);
     let rects = lists::originals_of(&list).expect("whole fours");
     let mut picture = Planes::new(&sizes, &noise, 1).original(&sizes);
-    let frame = original_of(Owned::new(&noise, 1920, 1080).view()).0.expect("the planes are exact");
-    Sides::repeated(8, pass(call, 1920, 1080, list), move || {
+    let frame = original_of(Owned::new(&noise, width, height).view()).0.expect("the planes are exact");
+    Sides::repeated(8, pass(call, width, height, list), move || {
         their_sum(call, &mut picture, black_box(&frame), black_box(&rects))
     })
 }

@@ -7,15 +7,17 @@ use original::decode::Yuv420Frame;
 
 use super::case::{Call, Outputs};
 use super::{V1, V2};
-use crate::bench::{scale, Bench, Pass, Sides, Weighing, SCALES};
+use crate::bench::{scale, Bench, Over, Pass, Sides, Weighing, SCALES};
 use crate::ours::Views;
 use crate::suites::noise::{Noise, LONGEST};
 use crate::suites::pictures::Sizes;
 
-const INPUT: &str = "1920x1080; the original allocates the views";
+const INPUT: &str = "; the original allocates the views";
 
-pub const V1_BENCH: Bench = Bench { name: "split_v1", input: INPUT, bound: Some(0.5), sides: || sides(&V1) };
-pub const V2_BENCH: Bench = Bench { name: "split_v2", input: INPUT, bound: Some(0.4), sides: || sides(&V2) };
+pub const V1_BENCH: Bench =
+    Bench { name: "split_v1", input: INPUT, bound: Some(0.5), over: Over::Frames(|w, h| sides(&V1, w, h)) };
+pub const V2_BENCH: Bench =
+    Bench { name: "split_v2", input: INPUT, bound: Some(0.4), over: Over::Frames(|w, h| sides(&V2, w, h)) };
 
 pub const V1_SCALE: Weighing = Weighing { name: "split_v1", input: SCALES, bound: 2.0, passes: || scaled(&V1) };
 pub const V2_SCALE: Weighing = Weighing { name: "split_v2", input: SCALES, bound: 2.0, passes: || scaled(&V2) };
@@ -24,10 +26,10 @@ fn scaled(call: &'static Call) -> [Pass; 2] {
     scale(|width, height| pass(call, width, height))
 }
 
-fn sides(call: &'static Call) -> Sides {
-    let sizes = Sizes::exact(1920, 1080);
-    let picture = probe::with_planes(1920, 1080, Noise::new(LONGEST).planes(0, sizes.lengths));
-    Sides::repeated(2, pass(call, 1920, 1080), move || their_sum(black_box(&picture), call.layout))
+fn sides(call: &'static Call, width: u16, height: u16) -> Sides {
+    let sizes = Sizes::exact(width, height);
+    let picture = probe::with_planes(width, height, Noise::new(LONGEST).planes(0, sizes.lengths));
+    Sides::repeated(2, pass(call, width, height), move || their_sum(black_box(&picture), call.layout))
 }
 
 /// A call of ours, which answers the number and a sum of bytes of the views.

@@ -5,7 +5,7 @@ use std::hint::black_box;
 use original::avc444::{probe, Yuv444Frame};
 use original::ExclusiveRectangle;
 
-use crate::bench::{sample, scale, Bench, Pass, Sides, Weighing, SCALES};
+use crate::bench::{sample, scale, Bench, Over, Pass, Sides, Weighing, SCALES};
 use crate::ours::{self, Size};
 use crate::suites::lists::{self, Rect};
 use crate::suites::noise::{Noise, LONGEST};
@@ -13,17 +13,17 @@ use crate::suites::pictures::Sizes;
 
 pub const BENCH: Bench = Bench {
     name: "to_rgba",
-    input: "1920x1080; the original allocates its answer",
+    input: "; the original allocates its answer",
     bound: Some(0.25),
-    sides: || {
-        let size = Size { width: 1920, height: 1080 };
+    over: Over::Frames(|width, height| {
+        let size = Size { width, height };
         let whole = lists::whole(size);
         let memory = planes(size);
         let planes: Vec<&[u8]> = memory.chunks(memory.len() / 3).collect();
-        let picture = probe::with_planes(1920, 1080, planes.try_into().expect("three planes"));
+        let picture = probe::with_planes(width, height, planes.try_into().expect("three planes"));
         let rect = lists::original_of(whole);
         Sides::repeated(2, pass(size, whole, FAR), move || their_sum(black_box(&picture), &rect))
-    },
+    }),
 };
 
 pub const ODD_EDGES: Weighing = Weighing {

@@ -4,7 +4,7 @@ use std::hint::black_box;
 
 use original::decode::Yuv420Frame;
 
-use crate::bench::{Bench, Sides};
+use crate::bench::{Bench, Over, Sides};
 use crate::ours::{self, Row, View};
 use crate::suites::views::{original_of, Sizes, Source};
 
@@ -12,18 +12,22 @@ pub const NUMBER_BENCH: Bench = Bench {
     name: "view",
     input: "16x16; the original's time has the copies of the planes that it keeps",
     bound: None,
-    sides: number_sides,
+    over: Over::One(number_sides),
 };
 
 pub const ROW_BENCH: Bench = Bench {
     name: "luma_row",
     input: "rows of 1920x1088; ours checks the view in each call, the original has before",
     bound: None,
-    sides: || row_sides(1920, 1088),
+    over: Over::One(|| row_sides(1920, 1088)),
 };
 
-pub const SMALL_ROW_BENCH: Bench =
-    Bench { name: "luma_row_small", input: "rows of 16x16; the same", bound: None, sides: || row_sides(16, 16) };
+pub const SMALL_ROW_BENCH: Bench = Bench {
+    name: "luma_row_small",
+    input: "rows of 16x16; the same",
+    bound: None,
+    over: Over::One(|| row_sides(16, 16)),
+};
 
 fn number_sides() -> Sides {
     const CALLS: u64 = 1 << 16;
