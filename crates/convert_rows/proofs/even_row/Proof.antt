@@ -33,7 +33,7 @@ sub-pairs : tie.Need-sub-pairs Inv-loop μ-loop
 sub-pairs c = omega arith
 
 loop-holds : tie.Need-loop-holds Inv-loop μ-loop
-loop-holds c = (search needs, refl, λ xs e h. done-at _ _ _ _ h (omega arith))
+loop-holds c = (omega arith, refl, λ xs e h. done-at _ _ _ _ h (omega arith))
 
 mul-j : tie.Need-mul-j Inv-loop μ-loop
 mul-j c = omega arith
@@ -80,8 +80,8 @@ loop-again c =
     let a = s .args in
     let at = a .row * a .stride + a .left in
     let j = a .left % 2 + 2 * l .loop .i in (
-      search needs,
-      search needs,
+      omega arith,
+      omega arith,
       λ xs e b. odd-col-step (a .stride) (a .row) (a .left) _ _ _ xs (j + 1) (at + j + 1) _
           (even-step (a .stride) (a .row) (a .left) _ _ _ xs j (at + j) (j + 1) (l .loop .inv .2 xs e b) (one .put-pixel .ensures)
           (omega arith) refl refl (omega arith) (omega arith) (one .before .smooth .ensures))
@@ -107,7 +107,7 @@ put-pixel-requires-3 : tie.Need-put-pixel-requires-3 Inv-loop μ-loop
 put-pixel-requires-3 c κs = omega arith
 
 same-length : tie.Need-same-length Inv-loop μ-loop
-same-length c = search needs
+same-length c = omega arith
 
 returns : tie.Need-returns Inv-loop μ-loop
 returns c =
@@ -119,19 +119,19 @@ returns c =
     let at = a .row * a .stride + a .left in
     let end = a .left % 2 + 2 * ((a .n - a .left % 2) / 2) in
     even-step (a .stride) (a .row) (a .left) _ _ _ _ end (at + end) (end + 1)
-    (done-at _ _ _ end (l .loop .inv .2 (a .out .now) (search needs) (h .even-head .ensures)) (omega arith)) (last .put-pixel3 .ensures)
+    (done-at _ _ _ end (l .loop .inv .2 (a .out .now) (omega arith) (h .even-head .ensures)) (omega arith)) (last .put-pixel3 .ensures)
     (omega arith) refl refl (omega arith) (omega arith) (last .before .smooth2 .ensures)
     ∙ done-all _ _ (end + 1) (omega arith)
 
 same-length-2 : tie.Need-same-length-2 Inv-loop μ-loop
-same-length-2 c = search needs
+same-length-2 c = omega arith
 
 returns-2 : tie.Need-returns-2 Inv-loop μ-loop
 returns-2 c =
     let l = c .before .before in
     let h = l .before .before .before in
     let a = h .before .before .before .before .before .before .args in
-    l .loop .inv .2 (a .out .now) (search needs) (h .even-head .ensures) ∙ done-all _ _ (a .left % 2 + 2 * l .loop .i) (omega arith)
+    l .loop .inv .2 (a .out .now) (omega arith) (h .even-head .ensures) ∙ done-all _ _ (a .left % 2 + 2 * l .loop .i) (omega arith)
 
 pub even-row-spec : {M : Type 1} → statement M
 even-row-spec =
