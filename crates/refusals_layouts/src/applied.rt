@@ -1,7 +1,5 @@
 // A view applied: 1, 7, 3 and 4, in this order. All bytes of the picture's planes are 201 before, and all of the view's 199.
-use crate::three;
 use picture::Size;
-use split::PlaneLengths;
 use view::View;
 
 // Which view.
@@ -9,6 +7,17 @@ pub(crate) enum Applied {
     Main,
     AuxiliaryV1,
     AuxiliaryV2,
+}
+
+// The lengths of three planes.
+struct Lengths {
+    y: usize,
+    u: usize,
+    v: usize,
+}
+
+fn three(y: usize, u: usize, v: usize) -> Lengths {
+    Lengths { y, u, v }
 }
 
 fn call(
@@ -40,7 +49,7 @@ fn from(
     list: &[u16],
     w: View,
     view: &[u8],
-    n: PlaneLengths,
+    n: Lengths,
 ) -> lent::Answer {
     let y_end = lent::least(n.y, view.len());
     let u_end = lent::least(n.u, view.len());
@@ -66,11 +75,11 @@ fn into(
     y: &mut [u8],
     u: &mut [u8],
     v: &mut [u8],
-    m: PlaneLengths,
+    m: Lengths,
     list: &[u16],
     w: View,
     view: &[u8],
-    n: PlaneLengths,
+    n: Lengths,
 ) -> lent::Answer {
     let y_end = lent::least(m.y, y.len());
     let u_end = lent::least(m.u, u.len());
@@ -97,15 +106,7 @@ fn name(which: Applied) {
 }
 
 // One line: a picture and the lengths of its planes, a list, a view and the lengths of its planes.
-fn line(
-    which: Applied,
-    case: &[u8],
-    size: Size,
-    m: PlaneLengths,
-    list: &[u16],
-    w: View,
-    n: PlaneLengths,
-) {
+fn line(which: Applied, case: &[u8], size: Size, m: Lengths, list: &[u16], w: View, n: Lengths) {
     let view = [199u8; 274];
     let mut y = [201u8; 257];
     let mut u = [201u8; 257];
@@ -122,11 +123,11 @@ fn line(
 fn five(
     which: Applied,
     case: &[u8],
-    m: PlaneLengths,
+    m: Lengths,
     list: &[u16],
     luma_stride: usize,
     chroma_stride: usize,
-    n: PlaneLengths,
+    n: Lengths,
 ) {
     let size = Size {
         width: 5,
@@ -141,8 +142,8 @@ fn five(
     line(which, case, size, m, list, w, n);
 }
 
-fn exact() -> PlaneLengths {
-    PlaneLengths {
+fn exact() -> Lengths {
+    Lengths {
         y: 256,
         u: 64,
         v: 64,
@@ -151,7 +152,7 @@ fn exact() -> PlaneLengths {
 
 // The lengths of the picture's planes, with a list.
 fn of_planes(which: Applied, case: &[u8], y: usize, u: usize, v: usize, list: &[u16]) {
-    five(which, case, PlaneLengths { y, u, v }, list, 16, 8, exact());
+    five(which, case, Lengths { y, u, v }, list, 16, 8, exact());
 }
 
 // The view's strides and the lengths of its planes, with a list and planes of the picture of so many bytes.
@@ -162,9 +163,9 @@ fn of_view(
     list: &[u16],
     luma: usize,
     chroma: usize,
-    n: PlaneLengths,
+    n: Lengths,
 ) {
-    let m = PlaneLengths {
+    let m = Lengths {
         y: plane,
         u: plane,
         v: plane,

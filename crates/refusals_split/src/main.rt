@@ -1,12 +1,20 @@
-// A split: 1, 5 and 6, in this order. All bytes of the picture's Y are 197, of U 198 and of V 199, and all of the outputs 201 before.
-use crate::three;
-use layout::Layout;
+// Each number of document 01's table that a split answers, run at the edge where it begins: exact, one short and one over. 1, 5 and 6, in
+// this order. One line for each case: its name, the number, the sizes and strides of the views, and what the lent bytes are afterwards:
+// unchanged, or the Adler-32 of what the call wrote. All bytes of the picture's Y are 197, of U 198 and of V 199, and all of the outputs
+// 201 before.
+// The file `stdout` beside src/ was written by hand from the document.
 use picture::Size;
 use split::PlaneLengths;
 use split::Views;
 
+// The lengths of three planes.
+fn three(y: usize, u: usize, v: usize) -> PlaneLengths {
+    PlaneLengths { y, u, v }
+}
+
+// The call, in layout V1 or in V2.
 fn call(
-    t: Layout,
+    v1: bool,
     size: Size,
     y: &[u8],
     u: &[u8],
@@ -18,15 +26,15 @@ fn call(
     aux_u: &mut [u8],
     aux_v: &mut [u8],
 ) -> Views {
-    match t {
-        Layout::V1 => split::split_v1(size, y, u, v, main_y, main_u, main_v, aux_y, aux_u, aux_v),
-        Layout::V2 => split::split_v2(size, y, u, v, main_y, main_u, main_v, aux_y, aux_u, aux_v),
+    if v1 {
+        return split::split_v1(size, y, u, v, main_y, main_u, main_v, aux_y, aux_u, aux_v);
     }
+    split::split_v2(size, y, u, v, main_y, main_u, main_v, aux_y, aux_u, aux_v)
 }
 
 // The call over the first so many bytes of the auxiliary view's outputs.
 fn auxiliary(
-    t: Layout,
+    v1: bool,
     size: Size,
     y: &[u8],
     u: &[u8],
@@ -43,7 +51,7 @@ fn auxiliary(
     let u_end = lent::least(n.u, aux_u.len());
     let v_end = lent::least(n.v, aux_v.len());
     call(
-        t,
+        v1,
         size,
         y,
         u,
@@ -59,7 +67,7 @@ fn auxiliary(
 
 // The same over the first so many bytes of the main view's outputs.
 fn both(
-    t: Layout,
+    v1: bool,
     size: Size,
     y: &[u8],
     u: &[u8],
@@ -77,7 +85,7 @@ fn both(
     let u_end = lent::least(m.u, main_u.len());
     let v_end = lent::least(m.v, main_v.len());
     auxiliary(
-        t,
+        v1,
         size,
         y,
         u,
@@ -92,10 +100,11 @@ fn both(
     )
 }
 
-fn name(t: Layout) {
-    match t {
-        Layout::V1 => say::text(b"split v1: "),
-        Layout::V2 => say::text(b"split v2: "),
+fn name(v1: bool) {
+    if v1 {
+        say::text(b"split v1: ");
+    } else {
+        say::text(b"split v2: ");
     }
 }
 
@@ -121,7 +130,7 @@ fn view(name: &[u8], y: &[u8], u: &[u8], v: &[u8]) {
 
 // Six outputs of so many bytes.
 fn outputs(
-    t: Layout,
+    v1: bool,
     case: &[u8],
     size: Size,
     y: &[u8],
@@ -137,7 +146,7 @@ fn outputs(
     let mut aux_u = [201u8; 65];
     let mut aux_v = [201u8; 65];
     let a = both(
-        t,
+        v1,
         size,
         y,
         u,
@@ -151,7 +160,7 @@ fn outputs(
         &mut aux_v,
         n,
     );
-    name(t);
+    name(v1);
     answer(case, a);
     view(b", main", &main_y, &main_u, &main_v);
     view(b", auxiliary", &aux_y, &aux_u, &aux_v);
@@ -159,7 +168,7 @@ fn outputs(
 
 // The same over the first so many bytes of the picture's planes.
 fn pictured(
-    t: Layout,
+    v1: bool,
     case: &[u8],
     size: Size,
     y: &[u8],
@@ -173,7 +182,7 @@ fn pictured(
     let u_end = lent::least(p.u, u.len());
     let v_end = lent::least(p.v, v.len());
     outputs(
-        t,
+        v1,
         case,
         size,
         &y[0..y_end],
@@ -185,11 +194,11 @@ fn pictured(
 }
 
 // One line: a picture and the lengths of its planes and of the outputs.
-fn line(t: Layout, case: &[u8], size: Size, p: PlaneLengths, m: PlaneLengths, n: PlaneLengths) {
+fn line(v1: bool, case: &[u8], size: Size, p: PlaneLengths, m: PlaneLengths, n: PlaneLengths) {
     let y = [197u8; 257];
     let u = [198u8; 257];
     let v = [199u8; 257];
-    pictured(t, case, size, &y, &u, &v, p, m, n);
+    pictured(v1, case, size, &y, &u, &v, p, m, n);
     say::read(b", y ", &y, 197);
     say::read(b", u ", &u, 198);
     say::read(b", v ", &v, 199);
@@ -197,76 +206,76 @@ fn line(t: Layout, case: &[u8], size: Size, p: PlaneLengths, m: PlaneLengths, n:
 }
 
 // The picture is 5 x 5: planes of 16 x 16, and views of 16 x 16 and 8 x 8.
-fn five(t: Layout, case: &[u8], p: PlaneLengths, m: PlaneLengths, n: PlaneLengths) {
+fn five(v1: bool, case: &[u8], p: PlaneLengths, m: PlaneLengths, n: PlaneLengths) {
     let size = Size {
         width: 5,
         height: 5,
     };
-    line(t, case, size, p, m, n);
+    line(v1, case, size, p, m, n);
 }
 
 // The lengths of the picture's planes.
-fn planes(t: Layout, case: &[u8], p: PlaneLengths) {
-    five(t, case, p, three(256, 64, 64), three(256, 64, 64));
+fn planes(v1: bool, case: &[u8], p: PlaneLengths) {
+    five(v1, case, p, three(256, 64, 64), three(256, 64, 64));
 }
 
 // The lengths of the outputs.
-fn views(t: Layout, case: &[u8], m: PlaneLengths, n: PlaneLengths) {
-    five(t, case, three(256, 256, 256), m, n);
+fn views(v1: bool, case: &[u8], m: PlaneLengths, n: PlaneLengths) {
+    five(v1, case, three(256, 256, 256), m, n);
 }
 
-fn edges(t: Layout) {
-    planes(t, b"exact", three(256, 256, 256));
+fn edges(v1: bool) {
+    planes(v1, b"exact", three(256, 256, 256));
     five(
-        t,
+        v1,
         b"one over",
         three(257, 257, 257),
         three(257, 65, 65),
         three(257, 65, 65),
     );
-    planes(t, b"y short", three(255, 256, 256));
-    planes(t, b"u short", three(256, 255, 256));
-    planes(t, b"v short", three(256, 256, 255));
-    views(t, b"main y short", three(255, 64, 64), three(256, 64, 64));
-    views(t, b"main u short", three(256, 63, 64), three(256, 64, 64));
-    views(t, b"main v short", three(256, 64, 63), three(256, 64, 64));
+    planes(v1, b"y short", three(255, 256, 256));
+    planes(v1, b"u short", three(256, 255, 256));
+    planes(v1, b"v short", three(256, 256, 255));
+    views(v1, b"main y short", three(255, 64, 64), three(256, 64, 64));
+    views(v1, b"main u short", three(256, 63, 64), three(256, 64, 64));
+    views(v1, b"main v short", three(256, 64, 63), three(256, 64, 64));
     views(
-        t,
+        v1,
         b"auxiliary y short",
         three(256, 64, 64),
         three(255, 64, 64),
     );
     views(
-        t,
+        v1,
         b"auxiliary u short",
         three(256, 64, 64),
         three(256, 63, 64),
     );
     views(
-        t,
+        v1,
         b"auxiliary v short",
         three(256, 64, 64),
         three(256, 64, 63),
     );
-    views(t, b"outputs empty", three(0, 0, 0), three(0, 0, 0));
+    views(v1, b"outputs empty", three(0, 0, 0), three(0, 0, 0));
 }
 
 // A picture of this size with every buffer empty.
-fn empty(t: Layout, case: &[u8], width: u16, height: u16) {
+fn empty(v1: bool, case: &[u8], width: u16, height: u16) {
     let none = three(0, 0, 0);
-    line(t, case, Size { width, height }, none, none, none);
+    line(v1, case, Size { width, height }, none, none, none);
 }
 
-fn sizes(t: Layout) {
-    empty(t, b"0 x 0", 0, 0);
-    empty(t, b"0 x 5", 0, 5);
-    empty(t, b"5 x 0", 5, 0);
-    empty(t, b"65520 x 0", 65520, 0);
-    empty(t, b"65521 x 0", 65521, 0);
-    empty(t, b"65535 x 0", 65535, 0);
-    empty(t, b"0 x 65520", 0, 65520);
-    empty(t, b"0 x 65521", 0, 65521);
-    empty(t, b"0 x 65535", 0, 65535);
+fn sizes(v1: bool) {
+    empty(v1, b"0 x 0", 0, 0);
+    empty(v1, b"0 x 5", 0, 5);
+    empty(v1, b"5 x 0", 5, 0);
+    empty(v1, b"65520 x 0", 65520, 0);
+    empty(v1, b"65521 x 0", 65521, 0);
+    empty(v1, b"65535 x 0", 65535, 0);
+    empty(v1, b"0 x 65520", 0, 65520);
+    empty(v1, b"0 x 65521", 0, 65521);
+    empty(v1, b"0 x 65535", 0, 65535);
 }
 
 // A plane of 65,536 x 16.
@@ -275,14 +284,14 @@ fn large_plane() -> [u8; 1048576] {
 }
 
 // A picture of 65,521 x 1, whose planes lie in one array, with outputs for 16 x 16.
-fn large(t: Layout, case: &[u8]) {
+fn large(v1: bool, case: &[u8]) {
     let plane = large_plane();
     let size = Size {
         width: 65521,
         height: 1,
     };
     outputs(
-        t,
+        v1,
         case,
         size,
         &plane,
@@ -295,20 +304,25 @@ fn large(t: Layout, case: &[u8]) {
     say::text(b"\n");
 }
 
-fn together(t: Layout) {
-    empty(t, b"1 and 5", 65521, 5);
+fn together(v1: bool) {
+    empty(v1, b"1 and 5", 65521, 5);
     five(
-        t,
+        v1,
         b"1 and 6",
         three(255, 256, 256),
         three(256, 64, 64),
         three(256, 64, 63),
     );
-    large(t, b"5 and 6");
+    large(v1, b"5 and 6");
 }
 
-pub(crate) fn lines(t: Layout) {
-    edges(t);
-    sizes(t);
-    together(t);
+fn lines(v1: bool) {
+    edges(v1);
+    sizes(v1);
+    together(v1);
+}
+
+fn main() {
+    lines(true);
+    lines(false);
 }
