@@ -3,7 +3,7 @@ use Prim.Native.Nat.{ℕ, _+_, _*_, _/_, _%_, _-_, _<_, _≤_}
 use native.Mathlib.Nat.{suc-mul}
 use native.Mathlib.Numerals.{add-one}
 use native.Mathlib.Omega.{arith}
-use mathlib.Core.Path.{_≡_, ap, _∙_}
+use mathlib.Core.Path.{_≡_, refl, ap, _∙_}
 use mathlib.Core.Bool.{true, false, _&&_}
 use mathlib.Core.List.{List, [], _∷_}
 use lib.Dec.{eqb}
@@ -65,6 +65,18 @@ module _ (stride row left : ℕ) (y u v xs : List ℕ) (i at m : ℕ) {was is p 
 
   pub even-step : row % 2 ≡ 0 → (left + i) % 2 ≡ 0 → p ≡ reverseOf (getD y at 0) (filterOf (cornersAt u at (at + stride))) (filterOf (cornersAt v at (at + stride))) → is ≡ done (rowFrom left (pixelAt stride y u v row)) m xs
   even-step even-row even-col pixel = by (pixel ∙ smooth-pixel stride row (left + i) at (omega arith) even-row even-col y u v)
+
+-- a pair of an even row: the pixels at columns left + j and left + j + 1, where the first j are done
+module _ (stride row left : ℕ) (y u v xs : List ℕ) (j at m : ℕ) {was mid is p q : List ℕ} where
+  pub pair-step : was ≡ done (rowFrom left (pixelAt stride y u v row)) j xs → mid ≡ stored was (4 * j) p → is ≡ stored mid (4 * (j + 1)) q
+      → 4 * j + 8 ≤ length xs → at ≡ row * stride + left + j → m ≡ j + 2 → row % 2 ≡ 0 → (left + j) % 2 ≡ 0
+      → p ≡ reverseOf (getD y at 0) (filterOf (cornersAt u at (at + stride))) (filterOf (cornersAt v at (at + stride)))
+      → q ≡ reverseOf (getD y (at + 1) 0) (getD u (at + 1) 0) (getD v (at + 1) 0)
+      → is ≡ done (rowFrom left (pixelAt stride y u v row)) m xs
+  pair-step before first second room here next even-row even-col smooth plain =
+      odd-col-step stride row left y u v xs (j + 1) (at + 1) m
+      (even-step stride row left y u v xs j at (j + 1) before first (omega arith) here refl even-row even-col smooth)
+      second (omega arith) (omega arith) (omega arith) (omega arith) plain
 
 -- an even row of an even number of rows has a row below it
 pub two-rows : (stride rows row : ℕ) → row % 2 ≡ 0 → rows % 2 ≡ 0 → row < rows → row * stride + 2 * stride ≤ rows * stride

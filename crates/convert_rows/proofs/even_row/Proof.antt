@@ -9,7 +9,7 @@ use lib.ListN.{length}
 use Rattle.lent.specs.Pixels.{done}
 use Rattle.lent.proofs.Pixels.{done-at, done-all}
 use Rattle.convert_rows.specs.Rules.{pixelAt, rowFrom}
-use Rattle.convert_rows.proofs.Rules.{odd-col-step, even-step}
+use Rattle.convert_rows.proofs.Rules.{even-step, pair-step}
 use Rattle.convert_rows.proofs.even_row.Statement.{statement}
 use Rattle.convert_rows.proofs.even_row.Tie as tie
 
@@ -82,10 +82,8 @@ loop-again c =
     let j = a .left % 2 + 2 * l .loop .i in (
       omega arith,
       omega arith,
-      λ xs e b. odd-col-step (a .stride) (a .row) (a .left) _ _ _ xs (j + 1) (at + j + 1) _
-          (even-step (a .stride) (a .row) (a .left) _ _ _ xs j (at + j) (j + 1) (l .loop .inv .2 xs e b) (one .put-pixel .ensures)
-          (omega arith) refl refl (omega arith) (omega arith) (one .before .smooth .ensures))
-          (second .put-pixel2 .ensures) (omega arith) (omega arith) (omega arith) (omega arith) (second .before .plain .ensures),
+      λ xs e b. pair-step (a .stride) (a .row) (a .left) (a .y .now) (a .u .now) (a .v .now) xs j (at + j) _ (l .loop .inv .2 xs e b) (one .put-pixel .ensures) (second .put-pixel2 .ensures)
+          (omega arith) refl (omega arith) (omega arith) (omega arith) (one .before .smooth .ensures) (second .before .plain .ensures),
     )
 
 mul-end : tie.Need-mul-end Inv-loop μ-loop
