@@ -54,15 +54,32 @@ pub fn both(
 ) -> lent::Answer
     ensures { λ r. ⌜ BothEnds size (now (rects .entry)) (planes (now (y .entry)) (now (u .entry)) (now (v .entry))) (planes (now («main_y» .entry)) (now («main_u» .entry)) (now («main_v» .entry))) (planes (now («aux_y» .entry)) (now («aux_u» .entry)) (now («aux_v» .entry))) (planes (now («first_y» .entry)) (now («first_u» .entry)) (now («first_v» .entry))) (planes (now («second_y» .entry)) (now («second_u» .entry)) (now («second_v» .entry))) r (planes (now («main_y» .exit)) (now («main_u» .exit)) (now («main_v» .exit))) (planes (now («aux_y» .exit)) (now («aux_u» .exit)) (now («aux_v» .exit))) (planes (now («first_y» .exit)) (now («first_u» .exit)) (now («first_v» .exit))) (planes (now («second_y» .exit)) (now («second_u» .exit)) (now («second_v» .exit))) ⌝ }
 {
-    let number = both_number(
-        size,
-        split::lengths(y, u, v),
-        split::lengths(main_y, main_u, main_v),
-        split::lengths(aux_y, aux_u, aux_v),
-        split::lengths(first_y, first_u, first_v),
-        split::lengths(second_y, second_u, second_v),
-        rects.len(),
-    );
+    let from = PlaneLengths {
+        y: y.len(),
+        u: u.len(),
+        v: v.len(),
+    };
+    let main = PlaneLengths {
+        y: main_y.len(),
+        u: main_u.len(),
+        v: main_v.len(),
+    };
+    let aux = PlaneLengths {
+        y: aux_y.len(),
+        u: aux_u.len(),
+        v: aux_v.len(),
+    };
+    let first = PlaneLengths {
+        y: first_y.len(),
+        u: first_u.len(),
+        v: first_v.len(),
+    };
+    let second = PlaneLengths {
+        y: second_y.len(),
+        u: second_u.len(),
+        v: second_v.len(),
+    };
+    let number = both_number(size, from, main, aux, first, second, rects.len());
     if number != 0 {
         return lent::Answer { number, count: 0 };
     }

@@ -76,14 +76,27 @@ pub fn through(
 ) -> lent::Answer
     ensures { λ r. ⌜ ThroughEnds layout size (now (rects .entry)) (planes (now (y .entry)) (now (u .entry)) (now (v .entry))) (planes (now («main_y» .entry)) (now («main_u» .entry)) (now («main_v» .entry))) (planes (now («aux_y» .entry)) (now («aux_u» .entry)) (now («aux_v» .entry))) (planes (now («old_y» .entry)) (now («old_u» .entry)) (now («old_v» .entry))) r (planes (now («main_y» .exit)) (now («main_u» .exit)) (now («main_v» .exit))) (planes (now («aux_y» .exit)) (now («aux_u» .exit)) (now («aux_v» .exit))) (planes (now («old_y» .exit)) (now («old_u» .exit)) (now («old_v» .exit))) ⌝ }
 {
-    let number = through_number(
-        size,
-        split::lengths(y, u, v),
-        split::lengths(main_y, main_u, main_v),
-        split::lengths(aux_y, aux_u, aux_v),
-        split::lengths(old_y, old_u, old_v),
-        rects.len(),
-    );
+    let from = PlaneLengths {
+        y: y.len(),
+        u: u.len(),
+        v: v.len(),
+    };
+    let main = PlaneLengths {
+        y: main_y.len(),
+        u: main_u.len(),
+        v: main_v.len(),
+    };
+    let aux = PlaneLengths {
+        y: aux_y.len(),
+        u: aux_u.len(),
+        v: aux_v.len(),
+    };
+    let earlier = PlaneLengths {
+        y: old_y.len(),
+        u: old_u.len(),
+        v: old_v.len(),
+    };
+    let number = through_number(size, from, main, aux, earlier, rects.len());
     if number != 0 {
         return lent::Answer { number, count: 0 };
     }

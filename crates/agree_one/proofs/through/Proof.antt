@@ -2,7 +2,7 @@
 -- leaves what its definition says.
 -- Assumes nothing.
 use borrow.Author.Needs.{needs}
-use mathlib.Core.Path.{_≡_, refl, sym, _∙_}
+use mathlib.Core.Path.{_≡_, sym, _∙_}
 use lib.ListN.{length}
 use denote.Ref.{now}
 use Rattle.split.specs.Split.{Planes, planes, lengthsOf, splitNumberOf}
@@ -14,7 +14,7 @@ use Rattle.agree_one.proofs.through.Tie as tie
 
 -- the places: where the number is found, and where each call is done
 abbrev start : tie.After-through-number → tie.Start
-start c = c .before .before .before .before .before .before .before .before .before .before .before .before .before .before .before .before .before .before .before .before .before .before .before .before .before .before .before
+start c = c .before .before .before .before .before .before .before .before .before .before .before .before .before .before
 
 abbrev split-at : tie.After-slice-known21 → tie.After-split
 split-at c = c .before .before .before .before .before .before .before .before .before .before .before .before .before .before .before .before .before .before .before .before .before .before .before .before .before .before .before .before .before .before .before .before .before .before .before .before .before .before .before
@@ -34,10 +34,7 @@ old c = planes (start c .args .old-y .now) (start c .args .old-u .now) (start c 
 numbered : (c : tie.After-through-number) → c .through-number .result
     ≡ firstOf (splitNumberOf (start c .args .size) (lengthsOf (from c)) (lengthsOf (main c)) (lengthsOf (aux c)))
     (earlierNumberOf (start c .args .size) (lengthsOf (old c)) (length (now (start c .args .rects))))
-numbered c =
-    c .through-number .ensures
-    ∙ (λ i. firstOf (splitNumberOf (start c .args .size) (c .before .before .before .before .before .before .before .before .before .before .before .before .before .lengths .ensures i) (c .before .before .before .before .before .before .before .before .before .lengths2 .ensures i) (c .before .before .before .before .before .lengths3 .ensures i))
-    (earlierNumberOf (start c .args .size) (c .before .lengths4 .ensures i) (length (now (start c .args .rects)))))
+numbered c = c .through-number .ensures
 
 zero : (c : tie.Else1)
     → let a = start (c .before) .args in
@@ -47,47 +44,8 @@ zero c =
     let a = start k .args in
     through-plainly (a .layout) (a .size) (now (a .rects)) (from k) (main k) (aux k) (old k) ∙ sym (numbered k) ∙ c .if1 .left
 
-lengths-requires : tie.Need-lengths-requires
-lengths-requires c κs = search needs
-
-lengths-requires-2 : tie.Need-lengths-requires-2
-lengths-requires-2 c κs = search needs
-
-lengths-requires-3 : tie.Need-lengths-requires-3
-lengths-requires-3 c κs = search needs
-
-lengths-requires-4 : tie.Need-lengths-requires-4
-lengths-requires-4 c κs = search needs
-
 through-number-requires : tie.Need-through-number-requires
 through-number-requires c κs = search needs
-
-same-length : tie.Need-same-length
-same-length c = refl
-
-same-length-2 : tie.Need-same-length-2
-same-length-2 c = refl
-
-same-length-3 : tie.Need-same-length-3
-same-length-3 c = refl
-
-same-length-4 : tie.Need-same-length-4
-same-length-4 c = refl
-
-same-length-5 : tie.Need-same-length-5
-same-length-5 c = refl
-
-same-length-6 : tie.Need-same-length-6
-same-length-6 c = refl
-
-same-length-7 : tie.Need-same-length-7
-same-length-7 c = refl
-
-same-length-8 : tie.Need-same-length-8
-same-length-8 c = refl
-
-same-length-9 : tie.Need-same-length-9
-same-length-9 c = refl
 
 returns : tie.Need-returns
 returns c =
@@ -107,32 +65,32 @@ apply-main-view-requires c κs = search needs
 apply-auxiliary-view-requires : tie.Need-apply-auxiliary-view-requires
 apply-auxiliary-view-requires c κs = search needs
 
-same-length-10 : tie.Need-same-length-10
-same-length-10 c = split-at c .split .kept .1 .1 .1 .1 .1 .0
+same-length : tie.Need-same-length
+same-length c = split-at c .split .kept .1 .1 .1 .1 .1 .0
 
-same-length-11 : tie.Need-same-length-11
-same-length-11 c = split-at c .split .kept .1 .1 .1 .1 .1 .1 .0
+same-length-2 : tie.Need-same-length-2
+same-length-2 c = split-at c .split .kept .1 .1 .1 .1 .1 .1 .0
 
-same-length-12 : tie.Need-same-length-12
-same-length-12 c = split-at c .split .kept .1 .1 .1 .1 .1 .1 .1 .0
+same-length-3 : tie.Need-same-length-3
+same-length-3 c = split-at c .split .kept .1 .1 .1 .1 .1 .1 .1 .0
 
-same-length-13 : tie.Need-same-length-13
-same-length-13 c = split-at c .split .kept .1 .1 .1 .1 .1 .1 .1 .1 .0
+same-length-4 : tie.Need-same-length-4
+same-length-4 c = split-at c .split .kept .1 .1 .1 .1 .1 .1 .1 .1 .0
 
-same-length-14 : tie.Need-same-length-14
-same-length-14 c = split-at c .split .kept .1 .1 .1 .1 .1 .1 .1 .1 .1 .0
+same-length-5 : tie.Need-same-length-5
+same-length-5 c = split-at c .split .kept .1 .1 .1 .1 .1 .1 .1 .1 .1 .0
 
-same-length-15 : tie.Need-same-length-15
-same-length-15 c = split-at c .split .kept .1 .1 .1 .1 .1 .1 .1 .1 .1 .1 .0
+same-length-6 : tie.Need-same-length-6
+same-length-6 c = split-at c .split .kept .1 .1 .1 .1 .1 .1 .1 .1 .1 .1 .0
 
-same-length-16 : tie.Need-same-length-16
-same-length-16 c = c .before .before .before .before .before .before .apply-auxiliary-view .kept .1 .1 .0 ∙ c .before .before .before .before .before .before .before .before .before .before .before .before .before .before .before .before .before .before .before .apply-main-view .kept .1 .0
+same-length-7 : tie.Need-same-length-7
+same-length-7 c = c .before .before .before .before .before .before .apply-auxiliary-view .kept .1 .1 .0 ∙ c .before .before .before .before .before .before .before .before .before .before .before .before .before .before .before .before .before .before .before .apply-main-view .kept .1 .0
 
-same-length-17 : tie.Need-same-length-17
-same-length-17 c = c .before .before .before .before .before .before .apply-auxiliary-view .kept .1 .1 .1 .0 ∙ c .before .before .before .before .before .before .before .before .before .before .before .before .before .before .before .before .before .before .before .apply-main-view .kept .1 .1 .0
+same-length-8 : tie.Need-same-length-8
+same-length-8 c = c .before .before .before .before .before .before .apply-auxiliary-view .kept .1 .1 .1 .0 ∙ c .before .before .before .before .before .before .before .before .before .before .before .before .before .before .before .before .before .before .before .apply-main-view .kept .1 .1 .0
 
-same-length-18 : tie.Need-same-length-18
-same-length-18 c = c .before .before .before .before .before .before .apply-auxiliary-view .kept .1 .1 .1 .1 .0 ∙ c .before .before .before .before .before .before .before .before .before .before .before .before .before .before .before .before .before .before .before .apply-main-view .kept .1 .1 .1 .0
+same-length-9 : tie.Need-same-length-9
+same-length-9 c = c .before .before .before .before .before .before .apply-auxiliary-view .kept .1 .1 .1 .1 .0 ∙ c .before .before .before .before .before .before .before .before .before .before .before .before .before .before .before .before .before .before .before .apply-main-view .kept .1 .1 .1 .0
 
 returns-2 : tie.Need-returns-2
 returns-2 c =
@@ -148,11 +106,12 @@ pub through-spec : {M : Type 1} → statement M
 through-spec =
     tie.close
     (tie.spec
-    lengths-requires
-    lengths-requires-2
-    lengths-requires-3
-    lengths-requires-4
     through-number-requires
+    returns
+    split-requires
+    view-of-requires
+    apply-main-view-requires
+    apply-auxiliary-view-requires
     same-length
     same-length-2
     same-length-3
@@ -162,18 +121,4 @@ through-spec =
     same-length-7
     same-length-8
     same-length-9
-    returns
-    split-requires
-    view-of-requires
-    apply-main-view-requires
-    apply-auxiliary-view-requires
-    same-length-10
-    same-length-11
-    same-length-12
-    same-length-13
-    same-length-14
-    same-length-15
-    same-length-16
-    same-length-17
-    same-length-18
     returns-2)
