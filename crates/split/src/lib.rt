@@ -54,17 +54,6 @@ fn view_short(size: picture::Size, n: PlaneLengths) -> bool
     lent::too_short(stride / 2, rows / 2, n.v)
 }
 
-// The lengths of what is lent.
-pub fn lengths(y: &[u8], u: &[u8], v: &[u8]) -> PlaneLengths
-    ensures { λ r. ⌜ r ≡ lengthsOf (planes (now (y .entry)) (now (u .entry)) (now (v .entry))) ⌝ }
-{
-    PlaneLengths {
-        y: y.len(),
-        u: u.len(),
-        v: v.len(),
-    }
-}
-
 // The number of a split: 1, 5, 6 or 0.
 pub fn split_number(
     size: picture::Size,
