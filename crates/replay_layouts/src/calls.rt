@@ -1,18 +1,7 @@
 // The calls: 0 is the auxiliary view of layout V1 onto a picture, 1 that of V2; 2 is a split into V1, 3 into V2.
-use picture::Size;
-use view::View;
+use stored::Case;
 ghost use mathlib.Core.Path.{_≡_};
 ghost use lib.ListN.{length};
-
-pub(crate) struct Call {
-    pub(crate) which: u16,
-    pub(crate) size: Size,
-    pub(crate) place: u16,
-    pub(crate) view: View,
-    pub(crate) view_place: u16,
-    pub(crate) count: u16,
-    pub(crate) rects: [u16; 12],
-}
 
 // A plane: 4,096 of the random bytes, from a place on.
 fn plane(bytes: &[u8], place: usize) -> [u8; 4096]
@@ -37,10 +26,10 @@ fn buffers(name: &[u8], y: &[u8], u: &[u8], v: &[u8]) {
 }
 
 // The view, whose planes are made here, goes into the picture.
-fn applied(c: Call, bytes: &[u8], list: &[u16], y: &mut [u8], u: &mut [u8], v: &mut [u8]) -> u32
+fn applied(c: Case, bytes: &[u8], list: &[u16], y: &mut [u8], u: &mut [u8], v: &mut [u8]) -> u32
     requires { ⌜ 8192 ≡ length (now bytes) ⌝ }
 {
-    let first = c.view_place as usize;
+    let first = c.view_source as usize;
     let vy = plane(bytes, first);
     let vu = plane(bytes, first + 83);
     let vv = plane(bytes, first + 167);
@@ -50,10 +39,10 @@ fn applied(c: Call, bytes: &[u8], list: &[u16], y: &mut [u8], u: &mut [u8], v: &
     auxiliary::apply_auxiliary_v2(c.size, y, u, v, list, c.view, &vy, &vu, &vv).number
 }
 
-fn apply(c: Call, bytes: &[u8], list: &[u16])
+fn apply(c: Case, bytes: &[u8], list: &[u16])
     requires { ⌜ 8192 ≡ length (now bytes) ⌝ }
 {
-    let first = c.place as usize;
+    let first = c.source as usize;
     let mut y = plane(bytes, first);
     let mut u = plane(bytes, first + 83);
     let mut v = plane(bytes, first + 167);
@@ -65,7 +54,7 @@ fn apply(c: Call, bytes: &[u8], list: &[u16])
 }
 
 // With the first rectangles of the list, as many as the case counts.
-fn listed(c: Call, bytes: &[u8], rects: &[u16])
+fn listed(c: Case, bytes: &[u8], rects: &[u16])
     requires { ⌜ 8192 ≡ length (now bytes) ⌝ }
 {
     let n = 4 * c.count as usize;
@@ -77,7 +66,7 @@ fn listed(c: Call, bytes: &[u8], rects: &[u16])
 }
 
 fn parted(
-    c: Call,
+    c: Case,
     y: &[u8],
     u: &[u8],
     v: &[u8],
@@ -95,7 +84,7 @@ fn parted(
 }
 
 // The planes go into outputs whose bytes are all 201.
-fn outputs(c: Call, y: &[u8], u: &[u8], v: &[u8]) {
+fn outputs(c: Case, y: &[u8], u: &[u8], v: &[u8]) {
     let mut main_y = [201u8; 4096];
     let mut main_u = [201u8; 4096];
     let mut main_v = [201u8; 4096];
@@ -123,10 +112,10 @@ fn outputs(c: Call, y: &[u8], u: &[u8], v: &[u8]) {
     buffers(b", auxiliary", &aux_y, &aux_u, &aux_v);
 }
 
-fn split_picture(c: Call, bytes: &[u8])
+fn split_picture(c: Case, bytes: &[u8])
     requires { ⌜ 8192 ≡ length (now bytes) ⌝ }
 {
-    let first = c.place as usize;
+    let first = c.source as usize;
     let y = plane(bytes, first);
     let u = plane(bytes, first + 83);
     let v = plane(bytes, first + 167);
@@ -149,7 +138,7 @@ fn name(which: u16) {
     say::text(b": split_v2");
 }
 
-pub(crate) fn line(c: Call, bytes: &[u8])
+pub(crate) fn line(c: Case, bytes: &[u8])
     requires { ⌜ 8192 ≡ length (now bytes) ⌝ }
 {
     name(c.which);

@@ -1,17 +1,7 @@
 // The calls: 0 is from RGBA, 1 picture to RGBA, 2 view to RGBA, 3 the main view onto a fresh picture, 4 onto one from RGBA.
 use picture::Size;
-use view::View;
+use stored::Case;
 ghost use Prim.Native.Nat.{_<_};
-
-pub(crate) struct Call {
-    pub(crate) which: u16,
-    pub(crate) size: Size,
-    pub(crate) seed: u16,
-    pub(crate) view: View,
-    pub(crate) view_seed: u16,
-    pub(crate) count: u16,
-    pub(crate) rects: [u16; 12],
-}
 
 // Bytes from a seed: x starts as the seed; for each byte it becomes (75 x + 74) % 65537, and the byte is x % 256.
 fn paint(plane: &mut [u8], seed: usize)
@@ -61,20 +51,20 @@ fn filled(size: Size, seed: u16, y: &mut [u8], u: &mut [u8], v: &mut [u8]) -> u3
     picture::from_rgba(&rgba, size, y, u, v).number
 }
 
-fn from_rgba(c: Call) {
+fn from_rgba(c: Case) {
     let mut y = [0u8; 4096];
     let mut u = [0u8; 4096];
     let mut v = [0u8; 4096];
-    let number = filled(c.size, c.seed, &mut y, &mut u, &mut v);
+    let number = filled(c.size, c.source, &mut y, &mut u, &mut v);
     planes(number, c.size, &y, &u, &v);
 }
 
-fn to_rgba(c: Call) {
+fn to_rgba(c: Case) {
     let mut y = [0u8; 4096];
     let mut u = [0u8; 4096];
     let mut v = [0u8; 4096];
     let mut out = [0u8; 8192];
-    if filled(c.size, c.seed, &mut y, &mut u, &mut v) != 0 {
+    if filled(c.size, c.source, &mut y, &mut u, &mut v) != 0 {
         say::text(b" refused");
         return;
     }
@@ -96,34 +86,34 @@ fn view_planes(seed: u16, y: &mut [u8], u: &mut [u8], v: &mut [u8]) {
     paint(v, first + 167);
 }
 
-fn view_to_rgba(c: Call) {
+fn view_to_rgba(c: Case) {
     let mut y = [0u8; 4096];
     let mut u = [0u8; 4096];
     let mut v = [0u8; 4096];
     let mut out = [0u8; 8192];
-    view_planes(c.view_seed, &mut y, &mut u, &mut v);
+    view_planes(c.view_source, &mut y, &mut u, &mut v);
     let a = convert::view_to_rgba(c.view, &y, &u, &v, &mut out);
     pixels(a, &out);
 }
 
 // The painted view goes into a picture.
-fn applied(c: Call, list: &[u16], y: &mut [u8], u: &mut [u8], v: &mut [u8]) -> u32 {
+fn applied(c: Case, list: &[u16], y: &mut [u8], u: &mut [u8], v: &mut [u8]) -> u32 {
     let mut vy = [0u8; 4096];
     let mut vu = [0u8; 4096];
     let mut vv = [0u8; 4096];
-    view_planes(c.view_seed, &mut vy, &mut vu, &mut vv);
+    view_planes(c.view_source, &mut vy, &mut vu, &mut vv);
     combine::apply_main_view(c.size, y, u, v, list, c.view, &vy, &vu, &vv).number
 }
 
 // The picture that it goes into.
-fn begun(c: Call, y: &mut [u8], u: &mut [u8], v: &mut [u8]) -> u32 {
+fn begun(c: Case, y: &mut [u8], u: &mut [u8], v: &mut [u8]) -> u32 {
     if c.which == 3 {
         return picture::new(c.size, y, u, v).number;
     }
-    filled(c.size, c.seed, y, u, v)
+    filled(c.size, c.source, y, u, v)
 }
 
-fn main_view(c: Call, list: &[u16]) {
+fn main_view(c: Case, list: &[u16]) {
     let mut y = [0u8; 4096];
     let mut u = [0u8; 4096];
     let mut v = [0u8; 4096];
@@ -136,7 +126,7 @@ fn main_view(c: Call, list: &[u16]) {
 }
 
 // The first rectangles of the list, as many as the case counts.
-fn listed(c: Call, rects: &[u16]) {
+fn listed(c: Case, rects: &[u16]) {
     let n = 4 * c.count as usize;
     if n > rects.len() {
         say::text(b" too many rectangles");
@@ -145,7 +135,7 @@ fn listed(c: Call, rects: &[u16]) {
     main_view(c, &rects[0..n]);
 }
 
-fn run(c: Call) {
+fn run(c: Case) {
     if c.which == 0 {
         say::size(b": from_rgba ", c.size.width, c.size.height);
         from_rgba(c);
@@ -165,7 +155,7 @@ fn run(c: Call) {
     listed(c, &c.rects);
 }
 
-pub(crate) fn line(c: Call) {
+pub(crate) fn line(c: Case) {
     run(c);
     say::text(b"\n");
 }

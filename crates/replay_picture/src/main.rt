@@ -1,79 +1,17 @@
 // Replays stored cases of the calls on a picture, and of view to RGBA, through the public calls: one line for each.
-// The file `stdout` beside src/ has the Rust original's answers (README.md), so the stored run compares the two. A case of the input is
-// 44 bytes, 22 numbers of two bytes each, little-endian: the call, a picture's width, height and seed, a view's width, height, luma
-// stride, chroma stride and seed, the count of rectangles, and three rectangles. Pixels and a view's planes are made from the seeds.
+// The file `stdout` beside src/ has the Rust original's answers (README.md), so the stored run compares the two. The input is cases of the
+// crate `stored`, one after the other. Pixels and a view's planes are made from the sources, which are seeds.
 mod calls;
 
 use libc::STDIN_FILENO;
 ghost use Prim.Native.Nat.{_+_, _≤_};
 ghost use lib.ListN.{length};
 
-// The number at a place.
-fn field(s: &[u8], at: usize) -> u16
-    requires { ⌜ at + 2 ≤ length (now s) ⌝ }
-{
-    replay::two(s, at) as u16
-}
-
-fn size_at(s: &[u8], at: usize) -> picture::Size
-    requires { ⌜ at + 4 ≤ length (now s) ⌝ }
-{
-    picture::Size {
-        width: field(s, at),
-        height: field(s, at + 2),
-    }
-}
-
-fn view_at(s: &[u8], at: usize) -> view::View
-    requires { ⌜ at + 8 ≤ length (now s) ⌝ }
-{
-    view::View {
-        width: field(s, at),
-        height: field(s, at + 2),
-        luma_stride: replay::two(s, at + 4),
-        chroma_stride: replay::two(s, at + 6),
-    }
-}
-
-// The numbers of three rectangles.
-fn rects_at(s: &[u8], at: usize) -> [u16; 12]
-    requires { ⌜ at + 24 ≤ length (now s) ⌝ }
-{
-    [
-        field(s, at),
-        field(s, at + 2),
-        field(s, at + 4),
-        field(s, at + 6),
-        field(s, at + 8),
-        field(s, at + 10),
-        field(s, at + 12),
-        field(s, at + 14),
-        field(s, at + 16),
-        field(s, at + 18),
-        field(s, at + 20),
-        field(s, at + 22),
-    ]
-}
-
-fn call_at(s: &[u8], at: usize) -> calls::Call
-    requires { ⌜ at + 44 ≤ length (now s) ⌝ }
-{
-    calls::Call {
-        which: field(s, at),
-        size: size_at(s, at + 2),
-        seed: field(s, at + 6),
-        view: view_at(s, at + 8),
-        view_seed: field(s, at + 16),
-        count: field(s, at + 18),
-        rects: rects_at(s, at + 20),
-    }
-}
-
 fn case(index: usize, s: &[u8], at: usize)
     requires { ⌜ at + 44 ≤ length (now s) ⌝ }
 {
     say::number(index);
-    calls::line(call_at(s, at));
+    calls::line(stored::case_at(s, at));
 }
 
 fn cases(s: &[u8]) {

@@ -1,0 +1,2 @@
+-- A stored case.
+pub mod Cases
