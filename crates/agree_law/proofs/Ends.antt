@@ -18,7 +18,7 @@ use Rattle.split.specs.declared.Views.{Views}
 use Rattle.split.specs.Split.{Planes, lengthsOf, mainSample, auxSample, viewAfter, splitNumberOf, splitAnswerOf, splitBuffersOf, SplitEnds}
 use Rattle.agree_law.specs.Agrees.{pictureOf, Agrees}
 use Rattle.agree_law.specs.Through.{buffersIn, threeOf, viewOf, viewIn, mainViewOf, auxViewOf, withMain, throughOf, firstOf, applyNumberOn, throughNumberOf, earlierNumberOf, planesAfter, throughBuffersOf, ThroughEnds}
-use Rattle.agree_law.specs.Both.{bothNumberOf, bothBuffersOf, BothEnds}
+use Rattle.agree_law.specs.Both.{secondOf, bothNumberOf, bothBuffersOf, BothEnds}
 use Rattle.agree_law.proofs.Number.{first-zero, through-plainly}
 use Rattle.agree_law.proofs.Calls.{through-agrees}
 
@@ -131,7 +131,7 @@ module _ (z : Size) (rects : List ℕ) (p m a q q′ : Planes) where
           buffers = λ i. planes-refused _ m (mainViewOf z p (mainViewOf z p m)) not-zero i
               ++ (planes-refused _ a (auxViewOf V2 z p (auxViewOf V1 z p a)) not-zero i
               ++ (planes-refused _ q (throughOf V1 z rects p m a q) not-zero i
-              ++ planes-refused _ q′ (throughOf V2 z rects p (mainViewOf z p m) (auxViewOf V1 z p a) q′) not-zero i));
+              ++ planes-refused _ q′ (secondOf z rects p m a q′) not-zero i));
         };
         first = λ e. absurd (f e);
         second = λ e. absurd (f e);

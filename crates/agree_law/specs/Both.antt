@@ -1,6 +1,7 @@
 -- Demand 3's own walk: the picture is split as V1 and goes onto the first earlier picture, then as V2 onto the second, over one list. The
 -- views' buffers are used again: what the first walk leaves in them is what the second one finds.
 --
+--   secondOf z rects p m a q′             the second earlier picture q′ after both walks
 --   bothNumberOf z rects p m a q q′       the first number that a step of the six would give, 0 where none would refuse
 --   bothBuffersOf n z rects p m a q q′    the views' buffers and both earlier pictures afterwards, the number being n
 --   BothEnds ...             how it ends: the answer r, the views' buffers m′ and a′, and x and x′, which the earlier pictures q and q′
@@ -16,6 +17,9 @@ use Rattle.split.specs.Split.{Planes}
 use Rattle.agree_law.specs.Agrees.{pictureOf, Agrees}
 use Rattle.agree_law.specs.Through.{buffersIn, mainViewOf, auxViewOf, throughOf, firstOf, throughNumberOf, planesAfter}
 
+abbrev pub secondOf : Size → List ℕ → Planes → Planes → Planes → Planes → Planes
+secondOf z rects p m a q′ = throughOf V2 z rects p (mainViewOf z p m) (auxViewOf V1 z p a) q′
+
 unfoldable pub bothNumberOf : Size → List ℕ → Planes → Planes → Planes → Planes → Planes → ℕ
 bothNumberOf z rects p m a q q′ =
     firstOf (throughNumberOf V1 z rects p m a q) (throughNumberOf V2 z rects p (mainViewOf z p m) (auxViewOf V1 z p a) q′)
@@ -25,7 +29,7 @@ bothBuffersOf n z rects p m a q q′ =
     planesAfter n m (mainViewOf z p (mainViewOf z p m))
     ++ (planesAfter n a (auxViewOf V2 z p (auxViewOf V1 z p a))
     ++ (planesAfter n q (throughOf V1 z rects p m a q)
-    ++ planesAfter n q′ (throughOf V2 z rects p (mainViewOf z p m) (auxViewOf V1 z p a) q′)))
+    ++ planesAfter n q′ (secondOf z rects p m a q′)))
 
 pub record BothEnds (z : Size) (rects : List ℕ) (p m a q q′ : Planes) (r : Answer) (m′ a′ x x′ : Planes) : Type 0 where
   pub ends : Outcome (answerOf (bothNumberOf z rects p m a q q′) 0) (bothBuffersOf (bothNumberOf z rects p m a q q′) z rects p m a q q′)

@@ -7,6 +7,7 @@
 ghost use mathlib.Core.Path.{_≡_};
 ghost use Rattle.split.specs.Split.{planes, splitNumberOf};
 ghost use Rattle.agree_law.specs.Through.{viewIn, firstOf, earlierNumberOf, ThroughEnds};
+use auxiliary::apply_auxiliary_view;
 use layout::Layout;
 use picture::Size;
 use split::PlaneLengths;
@@ -55,8 +56,8 @@ fn view_of(views: split::Views) -> View
     }
 }
 
-// The picture y, u, v is split in the layout, and the main view and then the auxiliary view go into the earlier picture over the list.
-// The views' six buffers are the caller's.
+// The picture y, u, v is split in the layout, and the main view and then the auxiliary view go into the earlier picture qy, qu, qv over
+// the list. The views' six buffers are the caller's.
 pub fn through(
     layout: Layout,
     size: Size,
@@ -70,11 +71,11 @@ pub fn through(
     aux_y: &mut [u8],
     aux_u: &mut [u8],
     aux_v: &mut [u8],
-    old_y: &mut [u8],
-    old_u: &mut [u8],
-    old_v: &mut [u8],
+    qy: &mut [u8],
+    qu: &mut [u8],
+    qv: &mut [u8],
 ) -> lent::Answer
-    ensures { λ r. ⌜ ThroughEnds layout size (now (rects .entry)) (planes (now (y .entry)) (now (u .entry)) (now (v .entry))) (planes (now («main_y» .entry)) (now («main_u» .entry)) (now («main_v» .entry))) (planes (now («aux_y» .entry)) (now («aux_u» .entry)) (now («aux_v» .entry))) (planes (now («old_y» .entry)) (now («old_u» .entry)) (now («old_v» .entry))) r (planes (now («main_y» .exit)) (now («main_u» .exit)) (now («main_v» .exit))) (planes (now («aux_y» .exit)) (now («aux_u» .exit)) (now («aux_v» .exit))) (planes (now («old_y» .exit)) (now («old_u» .exit)) (now («old_v» .exit))) ⌝ }
+    ensures { λ r. ⌜ ThroughEnds layout size (now (rects .entry)) (planes (now (y .entry)) (now (u .entry)) (now (v .entry))) (planes (now («main_y» .entry)) (now («main_u» .entry)) (now («main_v» .entry))) (planes (now («aux_y» .entry)) (now («aux_u» .entry)) (now («aux_v» .entry))) (planes (now (qy .entry)) (now (qu .entry)) (now (qv .entry))) r (planes (now («main_y» .exit)) (now («main_u» .exit)) (now («main_v» .exit))) (planes (now («aux_y» .exit)) (now («aux_u» .exit)) (now («aux_v» .exit))) (planes (now (qy .exit)) (now (qu .exit)) (now (qv .exit))) ⌝ }
 {
     let from = PlaneLengths {
         y: y.len(),
@@ -92,9 +93,9 @@ pub fn through(
         v: aux_v.len(),
     };
     let earlier = PlaneLengths {
-        y: old_y.len(),
-        u: old_u.len(),
-        v: old_v.len(),
+        y: qy.len(),
+        u: qu.len(),
+        v: qv.len(),
     };
     let number = through_number(size, from, main, aux, earlier, rects.len());
     if number != 0 {
@@ -114,17 +115,6 @@ pub fn through(
         aux_v,
     );
     let w = view_of(views);
-    combine::apply_main_view(size, old_y, old_u, old_v, rects, w, main_y, main_u, main_v);
-    auxiliary::apply_auxiliary_view(
-        layout,
-        size,
-        old_y,
-        old_u,
-        old_v,
-        rects,
-        w,
-        aux_y,
-        aux_u,
-        aux_v,
-    )
+    combine::apply_main_view(size, qy, qu, qv, rects, w, main_y, main_u, main_v);
+    apply_auxiliary_view(layout, size, qy, qu, qv, rects, w, aux_y, aux_u, aux_v)
 }

@@ -29,7 +29,7 @@ abbrev aux : tie.After-through-number → Planes
 aux c = planes (start c .args .aux-y .now) (start c .args .aux-u .now) (start c .args .aux-v .now)
 
 abbrev old : tie.After-through-number → Planes
-old c = planes (start c .args .old-y .now) (start c .args .old-u .now) (start c .args .old-v .now)
+old c = planes (start c .args .qy .now) (start c .args .qu .now) (start c .args .qv .now)
 
 numbered : (c : tie.After-through-number) → c .through-number .result
     ≡ firstOf (splitNumberOf (start c .args .size) (lengthsOf (from c)) (lengthsOf (main c)) (lengthsOf (aux c)))
