@@ -1,6 +1,6 @@
 // Demand 3, run. A small picture goes by V1 onto one earlier picture and by V2 onto another (`agree::both`), and then each luma sample of the
 // picture's pixels and each chroma sample of the padded planes is compared with what the demand says: the picture's inside a rectangle,
-// widened for chroma, and the earlier picture's own elsewhere. The file `stdout` was worked out from the demand by a script of its own.
+// widened for chroma, and the earlier picture's own elsewhere. The file `stdout` was worked out from the demand by tests/agree_run.py.
 //
 // A case is run three times, so that every sample of every plane differs from all others in one of them (samples::value). Its line says how
 // many bytes were compared, inside and elsewhere, and how many differ; a refusal's line says its number and how many bytes changed.
