@@ -116,7 +116,8 @@ haythaw_answer haythaw_to_rgba(uint16_t width, uint16_t height, const uint8_t *y
  * list changes nothing. */
 
 /* The main view: Y within the rectangles, in rows of the picture and columns below the widened right edge; U and V within the
- * widened rectangles, each chroma sample at all four places of its block. Every other byte of y, u and v stays. */
+ * widened rectangles, each chroma sample at the places of its block that are below view_height and view_width. Every other
+ * byte of y, u and v stays. */
 uint32_t haythaw_apply_main_view(uint16_t width, uint16_t height, uint8_t *y, size_t y_count, uint8_t *u, size_t u_count,
                                  uint8_t *v, size_t v_count, const uint16_t *rects, size_t rects_count,
                                  uint16_t view_width, uint16_t view_height, size_t luma_stride, size_t chroma_stride,
