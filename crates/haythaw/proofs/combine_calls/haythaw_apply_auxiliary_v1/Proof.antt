@@ -9,13 +9,13 @@ apply-auxiliary-v1-requires : tie.Need-apply-auxiliary-v1-requires
 apply-auxiliary-v1-requires c κs = search needs
 
 same-length : tie.Need-same-length
-same-length c = search needs
+same-length c = c .before .before .before .before .before .before .apply-auxiliary-v1 .kept .1 .0
 
 same-length-2 : tie.Need-same-length-2
-same-length-2 c = search needs
+same-length-2 c = c .before .before .before .before .before .before .apply-auxiliary-v1 .kept .1 .1 .0
 
 same-length-3 : tie.Need-same-length-3
-same-length-3 c = search needs
+same-length-3 c = c .before .before .before .before .before .before .apply-auxiliary-v1 .kept .1 .1 .1 .0
 
 returns : tie.Need-returns
 returns c = number-alone (c .before .before .before .before .before .before .apply-auxiliary-v1 .ensures)
