@@ -3,12 +3,12 @@
 --   mainLuma z w left top right bottom r c      "Luma: row from top to below min(bottom, height) and below vh; col from left to below the
 --                                               least of right, area right and vw"
 --   mainChroma z w left top right bottom r c    "Main: chroma at (row, col) in the area, row < vh, col < vw ..."
---   halved plane stride r c                     "... from U and V at row/2, col/2": halves are floor
+--   halved plane stride r c                     "... from U and V at row/2, col/2": halves are floor (said in main_rows, passed on here)
 --   lumaAfter z w rects vy y                    Y after an accepted call: each sample that some rectangle takes comes from the view's
 --                                               luma at its own row and column, and every other byte is as before
 --   chromaAfter z w rects samples plane         the same of U or V, with that plane of the view
 --   MainOutcome ...                             how the call ends, refusals included
-use Prim.Native.Nat.{ℕ, _/_, min}
+use Prim.Native.Nat.{ℕ, min}
 use mathlib.Core.Bool.{Bool, _&&_}
 use mathlib.Core.List.{List, [], _∷_}
 use lib.Dec.{ltb}
@@ -22,6 +22,7 @@ use Rattle.picture.specs.Sizes.{strideOf, rowsOf}
 use Rattle.view.specs.declared.View.{View}
 use Rattle.combine.specs.Rects.{Rule, taken, chromaBlockAreaOf, area}
 use Rattle.combine.specs.Number.{applyNumberOf}
+unfoldable pub use Rattle.main_rows.specs.Rows.{halved}
 
 unfoldable pub mainLuma : Size → View → Rule
 mainLuma z w left top right bottom =
@@ -29,9 +30,6 @@ mainLuma z w left top right bottom =
 
 unfoldable pub mainChroma : Size → View → Rule
 mainChroma z w left top right bottom r c = area z left top right bottom r c && ltb r (w .height) && ltb c (w .width)
-
-unfoldable pub halved : List ℕ → ℕ → ℕ → ℕ → ℕ
-halved plane stride r c = sample plane stride (r / 2) (c / 2)
 
 abbrev pub lumaAfter : Size → View → List ℕ → List ℕ → List ℕ → List ℕ
 lumaAfter z w rects vy y = painted (strideOf z) (rowsOf z) (taken (mainLuma z w) rects) (sample vy (w .«luma_stride»)) y

@@ -1,20 +1,20 @@
 // The main view goes into the picture: rectangle lists, the widened area, refusals, and every byte of the three planes afterwards.
 ghost use mathlib.Core.Path.{_≡_};
 ghost use mathlib.Core.List.{[], _∷_};
-ghost use Prim.Native.Nat.{_+_, _*_, _/_, _%_, _<_, min};
+ghost use Prim.Native.Nat.{_*_, _/_, _%_, _<_, min};
 ghost use lib.ListN.{length};
-ghost use Rattle.lent.specs.Paint.{painted, every, rowPart, upTo};
+ghost use Rattle.lent.specs.Paint.{painted, upTo};
 ghost use Rattle.lent.specs.Samples.{sample};
 ghost use Rattle.lent.specs.Sizes.{roundUp, halfUp};
 ghost use Rattle.picture.specs.Sizes.{strideOf, rowsOf};
 ghost use Rattle.view.specs.View.{lumaOf, chromaOf};
+ghost use Rattle.main_rows.specs.Rows.{RowsFit};
 ghost use Rattle.combine.specs.Rects.{chromaBlockAreaOf, inArea, rectAtOf, by};
 ghost use Rattle.combine.specs.Number.{applyNumberOf};
 ghost use Rattle.combine.specs.Main.{mainLuma, mainChroma, halved, lumaAfter, chromaAfter, MainOutcome};
-ghost use Rattle.combine.specs.Fits.{RectFits, RowsFit};
+ghost use Rattle.combine.specs.Fits.{RectFits};
 use picture::Size;
 use view::Plane;
-use view::RowStart;
 use view::View;
 
 // A rectangle of a list: right and bottom are exclusive.
@@ -97,22 +97,6 @@ pub fn apply_number(
     view::view_number(w, vy, vu, vv)
 }
 
-// Row `row` of Y takes the columns from left to below right of the view's row, where the view has that row.
-fn luma_row(y: &mut [u8], size: Size, row: usize, left: usize, right: usize, from: Plane, vy: &[u8])
-    requires { ⌜ RowsFit size from (length (now y)) (length (now vy)) (row + 1) left right right ⌝ }
-    ensures { λ _. ⌜ now (y .exit) ≡ painted (strideOf size) (rowsOf size) (upTo (rowPart every row left right) (from .height)) (sample (now (vy .entry)) (from .stride)) (now (y .entry)) ⌝ }
-{
-    let found = view::row_start(vy.len(), from.stride, from.height, row);
-    let RowStart::At(start) = found else {
-        return;
-    };
-    let line = row * picture::stride(size);
-    lent::copy(
-        &mut y[line + left..line + right],
-        &vy[start + left..start + right],
-    );
-}
-
 // The rows and columns of the area.
 fn luma_rows(y: &mut [u8], size: Size, area: Area, from: Plane, vy: &[u8])
     requires { ⌜ RowsFit size from (length (now y)) (length (now vy)) (area .bottom) (area .left) (area .right) (area .right) ⌝ }
@@ -120,7 +104,7 @@ fn luma_rows(y: &mut [u8], size: Size, area: Area, from: Plane, vy: &[u8])
 {
     let mut row = area.top;
     while row < area.bottom {
-        luma_row(y, size, row, area.left, area.right, from, vy);
+        main_rows::luma_row(y, size, row, area.left, area.right, from, vy);
         row += 1;
     }
 }
@@ -172,30 +156,6 @@ fn luma_rects(y: &mut [u8], size: Size, rects: &[u16], w: View, vy: &[u8])
     }
 }
 
-// Row `row` of U or V takes the columns from left to below right of the view's row row/2, each sample at two columns.
-fn chroma_row(
-    plane: &mut [u8],
-    size: Size,
-    row: usize,
-    left: usize,
-    right: usize,
-    from: Plane,
-    samples: &[u8],
-)
-    requires { ⌜ RowsFit size from (length (now plane)) (length (now samples)) (row + 1) left right (halfUp right) ⌝ }
-    requires { ⌜ left % 2 ≡ 0 ⌝ }
-    ensures { λ _. ⌜ now (plane .exit) ≡ painted (strideOf size) (rowsOf size) (upTo (rowPart every row left right) (2 * from .height)) (halved (now (samples .entry)) (from .stride)) (now (plane .entry)) ⌝ }
-{
-    let found = view::row_start(samples.len(), from.stride, from.height, row / 2);
-    let RowStart::At(start) = found else {
-        return;
-    };
-    let line = row * picture::stride(size);
-    let first = start + left / 2;
-    let end = start + (right + 1) / 2;
-    lent::spread(&mut plane[line + left..line + right], &samples[first..end]);
-}
-
 // The rows and columns of the area.
 fn chroma_rows(plane: &mut [u8], size: Size, area: Area, from: Plane, samples: &[u8])
     requires { ⌜ RowsFit size from (length (now plane)) (length (now samples)) (area .bottom) (area .left) (area .right) (halfUp (area .right)) ⌝ }
@@ -204,7 +164,7 @@ fn chroma_rows(plane: &mut [u8], size: Size, area: Area, from: Plane, samples: &
 {
     let mut row = area.top;
     while row < area.bottom {
-        chroma_row(plane, size, row, area.left, area.right, from, samples);
+        main_rows::chroma_row(plane, size, row, area.left, area.right, from, samples);
         row += 1;
     }
 }

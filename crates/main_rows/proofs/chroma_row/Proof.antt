@@ -1,4 +1,4 @@
--- `combine::chroma_row` meets its contract: where the view has the row, each byte of its part goes to two columns of the plane's, and otherwise nothing is taken.
+-- `main_rows::chroma_row` meets its contract: where the view has the row, each byte of its part goes to two columns of the plane's, and otherwise nothing is taken.
 -- Assumes nothing.
 use borrow.Author.Needs.{needs}
 use Prim.Native.Nat.{ℕ, _+_, _*_, _/_, _<_, _≤_}
@@ -8,9 +8,9 @@ use lib.ListN.{length}
 use denote.Ref.{now}
 use Rattle.picture.specs.Sizes.{strideOf}
 use Rattle.view.proofs.Rows.{rowStart-at, rowStart-absent}
-use Rattle.combine.proofs.Rows.{line-fits, row-absent, row-written, part-halved}
-use Rattle.combine.proofs.chroma_row.Statement.{statement}
-use Rattle.combine.proofs.chroma_row.Tie as tie
+use Rattle.main_rows.proofs.Rows.{line-fits, row-absent, row-written, part-halved}
+use Rattle.main_rows.proofs.chroma_row.Statement.{statement}
+use Rattle.main_rows.proofs.chroma_row.Tie as tie
 
 abbrev start : tie.After-found → tie.Start
 start f = f .before .before .before .before .before

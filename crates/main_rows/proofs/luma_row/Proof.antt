@@ -1,4 +1,4 @@
--- `combine::luma_row` meets its contract: where the view has the row, its part is copied into the plane's, and otherwise nothing is taken.
+-- `main_rows::luma_row` meets its contract: where the view has the row, its part is copied into the plane's, and otherwise nothing is taken.
 -- Assumes nothing.
 use borrow.Author.Needs.{needs}
 use Prim.Native.Nat.{ℕ, _+_, _*_, _<_, _≤_}
@@ -11,9 +11,9 @@ use Rattle.lent.proofs.Paint.{paint-over}
 use Rattle.lent.proofs.Samples.{part-sample}
 use Rattle.picture.specs.Sizes.{strideOf}
 use Rattle.view.proofs.Rows.{rowStart-at, rowStart-absent}
-use Rattle.combine.proofs.Rows.{line-fits, row-absent, row-written}
-use Rattle.combine.proofs.luma_row.Statement.{statement}
-use Rattle.combine.proofs.luma_row.Tie as tie
+use Rattle.main_rows.proofs.Rows.{line-fits, row-absent, row-written}
+use Rattle.main_rows.proofs.luma_row.Statement.{statement}
+use Rattle.main_rows.proofs.luma_row.Tie as tie
 
 abbrev start : tie.After-found → tie.Start
 start f = f .before .before .before .before .before
