@@ -321,7 +321,7 @@ static uint64_t number_of(int argc, char **argv, int at)
 int main(int argc, char **argv)
 {
     if (argc == 2 && !strcmp(argv[1], "--self-test")) return self_test();
-    uint64_t seed = 1, cases = 100000, seconds = 0, only = UINT64_MAX;
+    uint64_t seed = 1, cases = 40000, seconds = 0, only = UINT64_MAX;
     for (int i = 1; i < argc; i += 2) {
         uint64_t *into = !strcmp(argv[i], "--seed") ? &seed : !strcmp(argv[i], "--cases") ? &cases
                          : !strcmp(argv[i], "--seconds") ? &seconds : !strcmp(argv[i], "--only") ? &only : NULL;
