@@ -23,40 +23,69 @@ fn case(sum: Found, name: &[u8], width: u16, height: u16, rects: &[u16], lent: u
     sum.with(found)
 }
 
-fn main() {
-    let all = samples::ROOM;
-    let none = walks::nothing();
+// Whole pictures, from the smallest on.
+fn whole(sum: Found) -> Found {
     let whole = [0u16, 0, 65535, 65535];
-    let a = case(none, b"0x0, whole", 0, 0, &whole, all);
+    let all = samples::ROOM;
+    let a = case(sum, b"0x0, whole", 0, 0, &whole, all);
     let b = case(a, b"1x1, whole", 1, 1, &whole, all);
     let c = case(b, b"16x16, whole", 16, 16, &whole, all);
     let d = case(c, b"33x18, whole", 33, 18, &whole, all);
-    let e = case(d, b"48x16, whole", 48, 16, &whole, all);
-    let f = case(e, b"16x16, no rectangle", 16, 16, &whole[0..0], all);
-    let g = case(f, b"16x16, a column", 16, 16, &[7, 0, 8, 16], all);
-    let h = case(g, b"17x3, odd edges", 17, 3, &[15, 1, 17, 2], all);
-    let i = case(h, b"33x18, odd edges", 33, 18, &[3, 5, 20, 16], all);
-    let j = case(i, b"5x5, empty at an odd edge", 5, 5, &[5, 0, 5, 4], all);
-    let k = case(j, b"5x5, empty at an even edge", 5, 5, &[4, 0, 4, 4], all);
-    let l = case(
-        k,
+    case(d, b"48x16, whole", 48, 16, &whole, all)
+}
+
+// No rectangle, and one.
+fn one(sum: Found) -> Found {
+    let all = samples::ROOM;
+    let a = case(sum, b"16x16, no rectangle", 16, 16, &[], all);
+    let b = case(a, b"16x16, a column", 16, 16, &[7, 0, 8, 16], all);
+    let c = case(b, b"17x3, odd edges", 17, 3, &[15, 1, 17, 2], all);
+    case(c, b"33x18, odd edges", 33, 18, &[3, 5, 20, 16], all)
+}
+
+// An empty rectangle.
+fn empty(sum: Found) -> Found {
+    let all = samples::ROOM;
+    let a = case(sum, b"5x5, empty at an odd edge", 5, 5, &[5, 0, 5, 4], all);
+    case(a, b"5x5, empty at an even edge", 5, 5, &[4, 0, 4, 4], all)
+}
+
+// Several rectangles.
+fn several(sum: Found) -> Found {
+    let all = samples::ROOM;
+    let a = case(
+        sum,
         b"33x18, reversed and off",
         33,
         18,
         &[20, 10, 5, 3, 40, 2, 60, 9, 0, 18, 33, 30],
         all,
     );
-    let m = case(
-        l,
+    case(
+        a,
         b"33x18, several, one twice",
         33,
         18,
         &[1, 1, 4, 4, 20, 3, 65535, 17, 1, 1, 4, 4, 3, 2, 22, 6],
         all,
-    );
-    let n = case(m, b"16x16, a list of 5", 16, 16, &[0, 0, 4, 4, 9], all);
-    let o = case(n, b"16x16, the second picture short", 16, 16, &whole, 255);
-    let p = case(o, b"48x48, planes short", 48, 48, &whole, all);
-    let q = case(p, b"65521x0, too large", 65521, 0, &whole, all);
-    say::total(q);
+    )
+}
+
+// What is refused.
+fn refused(sum: Found) -> Found {
+    let whole = [0u16, 0, 65535, 65535];
+    let all = samples::ROOM;
+    let a = case(sum, b"16x16, a list of 5", 16, 16, &[0, 0, 4, 4, 9], all);
+    let b = case(a, b"16x16, the second picture short", 16, 16, &whole, 255);
+    let c = case(b, b"48x48, planes short", 48, 48, &whole, all);
+    case(c, b"65521x0, too large", 65521, 0, &whole, all)
+}
+
+fn main() {
+    let a = whole(walks::nothing());
+    let b = one(a);
+    let c = empty(b);
+    let d = several(c);
+    let e = refused(d);
+    say::total(e);
 }

@@ -39,7 +39,7 @@ pub(crate) fn value(kind: Kind, place: usize) -> u8 {
     192 + low
 }
 
-pub(crate) fn fill(plane: &mut [u8], kind: Kind) {
+fn fill(plane: &mut [u8], kind: Kind) {
     let mut i = 0;
     while i < plane.len() {
         plane[i] = value(kind, i);
@@ -47,32 +47,11 @@ pub(crate) fn fill(plane: &mut [u8], kind: Kind) {
     }
 }
 
-// Three planes, Y, U and V.
-pub(crate) fn fill_all(y: &mut [u8], u: &mut [u8], v: &mut [u8], whose: u8, run: u8) {
-    fill(
-        y,
-        Kind {
-            whose,
-            plane: 0,
-            run,
-        },
-    );
-    fill(
-        u,
-        Kind {
-            whose,
-            plane: 1,
-            run,
-        },
-    );
-    fill(
-        v,
-        Kind {
-            whose,
-            plane: 2,
-            run,
-        },
-    );
+// A buffer that holds these.
+pub(crate) fn plane(whose: u8, plane: u8, run: u8) -> [u8; 1600] {
+    let mut bytes = [0u8; 1600];
+    fill(&mut bytes, Kind { whose, plane, run });
+    bytes
 }
 
 // How many bytes are not what `fill` put there.
@@ -88,7 +67,14 @@ fn changed(plane: &[u8], kind: Kind) -> u32 {
     count
 }
 
-pub(crate) fn changed_all(y: &[u8], u: &[u8], v: &[u8], whose: u8, run: u8) -> u32 {
+// Of three planes, Y, U and V.
+pub(crate) fn changed_all(
+    y: &[u8; 1600],
+    u: &[u8; 1600],
+    v: &[u8; 1600],
+    whose: u8,
+    run: u8,
+) -> u32 {
     let a = changed(
         y,
         Kind {
