@@ -15,9 +15,8 @@ padded, exact or cropped; views cropped by 1 to 15 in each direction, and unrela
 reversed or off the picture; lists of 0 to 24 numbers; too short planes, too narrow strides, and both; widths and left edges
 about 512 and 1,024
 named: the worked rectangles of a 5x5 picture; (1,0,33,16), (0,1,64,17), (0,8,64,24) and left = 2, each of which FreeRDP
-gets wrong in some combine; widths 20, 34 and 62; the whole frame; the kinds of call behind CVE-2023-40188, CVE-2026-29774,
-CVE-2026-33986 and CVE-2026-25941: a view that ends before its rows or the rectangle, rectangles outside the frame,
-dimensions that disagree
+gets wrong in some combine; widths 20, 34 and 62; the whole frame; the kinds of call behind CVE-2023-40188, CVE-2026-29774
+and CVE-2026-33986: a view that ends before its rows or the rectangle, rectangles outside the frame, dimensions that disagree
 random: larger pictures, to 65,535 wide or high, with any view";
 
 /// Every case of an apply call.
