@@ -15,6 +15,7 @@ use Rattle.lent.specs.Samples.{sample}
 use Rattle.lent.proofs.Bools.{split, same-test, never-true, either, or-left, or-right, cond-true, cond-false}
 use Rattle.lent.proofs.Paint.{length-paint, getD-paint, paint-is, paint-ext, paint-paint}
 use Rattle.lent.proofs.Painted.{painted-ext}
+use Rattle.lent.proofs.Samples.{part-sample}
 use Rattle.lent.proofs.Parts.{part-length, part-before, part-in, part-after}
 use Rattle.lent.proofs.Taken.{within-facts, within-holds}
 use Rattle.split_rows.specs.Pairs.{pairOf}
@@ -129,14 +130,31 @@ chunk-next xs was ys a e u s ordered fits before is from =
     long : length was ≡ length xs
     long = ap length before ∙ length-paint _ _ xs
 
+-- the same where a part is every step-th sample of a row: those from column a to below e come after those below a
+pub picked-next : (step stride row first : ℕ) (plane xs was ys : List ℕ) (a e : ℕ) → a ≤ e → e ≤ length xs
+    → was ≡ paint (λ k. ltb k a) (λ k. sample plane stride row (step * k + first)) xs
+    → ys ≡ paint every (λ k. getD (take (row * stride + step * e - (row * stride + step * a)) (drop (row * stride + step * a) plane)) (step * k + first) 0) (take (e - a) (drop a was))
+    → ((j : ℕ) → a + j < e → step * a + (step * j + first) < step * e) → ((j : ℕ) → step * a + (step * j + first) ≡ step * (a + j) + first)
+    → take a was ++ (ys ++ drop (e - a) (drop a was)) ≡ paint (λ k. ltb k e) (λ k. sample plane stride row (step * k + first)) xs
+picked-next step stride row first plane xs was ys a e ordered fits before is inside at =
+    chunk-next xs was ys a e _ (λ k. sample plane stride row (step * k + first)) ordered fits before is
+    (λ j h. part-sample plane stride row (row * stride) (step * a) (step * e) (step * j + first) refl (inside j h) ∙ ap (sample plane stride row) (at j))
+
+-- every second byte of every second byte is every fourth one
+pub fourths-twice : (src z dst : List ℕ) (first : ℕ) → 2 * length dst ≤ length z → first < 4
+    → paint every (λ k. getD (paint every (λ j. getD src (2 * j + first % 2) 0) z) (2 * k + first / 2) 0) dst ≡ paint every (λ k. getD src (4 * k + first) 0) dst
+fourths-twice src z dst first room below =
+    paint-ext every every _ _ dst (λ k h. refl)
+    (λ k h e. getD-paint every _ z (2 * k + first / 2) (omega arith) ∙ ap (λ (j : ℕ). getD src j 0) (omega arith))
+
 -- the bytes of pairs
-module _ (src z dst : List ℕ) (room : length dst ≤ length z) (byte : (k : ℕ) → getD src k 0 < 256) where
+module _ (src z dst : List ℕ) (n : ℕ) (most : length dst ≤ n) (room : length dst ≤ length z) (byte : (k : ℕ) → getD src k 0 < 256) where
   abbrev paired : List ℕ
-  paired = paint (λ k. ltb k (length dst)) (pairOf src) z
+  paired = paint (λ k. ltb k n) (pairOf src) z
 
   paired-at : (k : ℕ) → k < length dst → getD paired k 0 ≡ getD src (2 * k) 0 + 256 * getD src (2 * k + 1) 0
   unfolding pairOf
-  paired-at k h = getD-paint _ _ z k (omega arith) ∙ cond-true (ltb k (length dst)) _ _ (lt-ltb k (length dst) h)
+  paired-at k h = getD-paint _ _ z k (omega arith) ∙ cond-true (ltb k n) _ _ (lt-ltb k n (omega arith))
 
   pub firsts-of : {first : ℕ} → first ≡ 0 → paint every (λ k. getD paired k 0 % 256) dst ≡ paint every (λ k. getD src (2 * k + first) 0) dst
   firsts-of {first} none =

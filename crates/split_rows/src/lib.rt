@@ -1,7 +1,8 @@
 // One row of a view of a split, read out of one row of the picture: whole, every second sample, or every fourth.
 //
-// Each writer promises every byte of the row that it is lent: the sample of the picture that belongs there. Every second sample goes
-// through pairs of bytes in a local array, which the compiler turns into vector code.
+// Each writer promises every byte of the row that it is lent: the sample of the picture that belongs there. A row goes by parts of 64
+// bytes. Every second byte of a whole part goes through 64 pairs, which the compiler turns into vector code and keeps in registers, since
+// it knows their number; every fourth byte is every second one twice. What is left at the row's end is read byte by byte.
 ghost use mathlib.Core.Path.{_≡_};
 ghost use Prim.Native.Nat.{_+_, _*_, _/_, _%_, _<_, _≤_};
 ghost use lib.Dec.{ltb};
@@ -43,10 +44,10 @@ fn pair(pairs: &mut [u16], src: &[u8], n: usize)
 
 // dst becomes the first bytes of the pairs.
 fn firsts(dst: &mut [u8], pairs: &[u16])
-    requires { ⌜ length (now dst) ≤ length (now pairs) ⌝ }
+    requires { ⌜ length (now dst) ≡ length (now pairs) ⌝ }
     ensures { λ _. ⌜ now (dst .exit) ≡ paint every (λ k. getD (now (pairs .entry)) k 0 % 256) (now (dst .entry)) ⌝ }
 {
-    let n = dst.len();
+    let n = pairs.len();
     let mut i = 0;
     while i < n {
         dst[i] = (pairs[i] % 256) as u8;
@@ -56,10 +57,10 @@ fn firsts(dst: &mut [u8], pairs: &[u16])
 
 // dst becomes the second bytes of the pairs.
 fn lasts(dst: &mut [u8], pairs: &[u16])
-    requires { ⌜ length (now dst) ≤ length (now pairs) ⌝ }
+    requires { ⌜ length (now dst) ≡ length (now pairs) ⌝ }
     ensures { λ _. ⌜ now (dst .exit) ≡ paint every (λ k. getD (now (pairs .entry)) k 0 / 256) (now (dst .entry)) ⌝ }
 {
-    let n = dst.len();
+    let n = pairs.len();
     let mut i = 0;
     while i < n {
         dst[i] = (pairs[i] / 256) as u8;
@@ -67,21 +68,72 @@ fn lasts(dst: &mut [u8], pairs: &[u16])
     }
 }
 
-// dst, at most 256 bytes, becomes every second byte of src, the first being src[first].
-fn seconds_part(dst: &mut [u8], src: &[u8], first: usize)
-    requires { ⌜ length (now dst) ≤ 256 ⌝ }
-    requires { ⌜ 2 * length (now dst) ≤ length (now src) ⌝ }
+// dst, 64 bytes, becomes every second byte of src, the first being src[first].
+fn seconds_64(dst: &mut [u8], src: &[u8], first: usize)
+    requires { ⌜ length (now dst) ≡ 64 ⌝ }
+    requires { ⌜ 128 ≤ length (now src) ⌝ }
     requires { ⌜ first < 2 ⌝ }
     ensures { λ _. ⌜ now (dst .exit) ≡ paint every (λ k. getD (now (src .entry)) (2 * k + first) 0) (now (dst .entry)) ⌝ }
 {
-    let mut pairs = [0u16; 256];
-    let n = dst.len();
-    pair(&mut pairs, src, n);
+    let mut pairs = [0u16; 64];
+    pair(&mut pairs, src, 64);
     if first == 0 {
         firsts(dst, &pairs);
         return;
     }
     lasts(dst, &pairs);
+}
+
+// The same of 128 bytes.
+fn seconds_128(dst: &mut [u8], src: &[u8], first: usize)
+    requires { ⌜ length (now dst) ≡ 128 ⌝ }
+    requires { ⌜ 256 ≤ length (now src) ⌝ }
+    requires { ⌜ first < 2 ⌝ }
+    ensures { λ _. ⌜ now (dst .exit) ≡ paint every (λ k. getD (now (src .entry)) (2 * k + first) 0) (now (dst .entry)) ⌝ }
+{
+    seconds_64(&mut dst[0..64], &src[0..128], first);
+    seconds_64(&mut dst[64..128], &src[128..256], first);
+}
+
+// dst, 64 bytes, becomes every fourth byte of src, the first being src[first].
+fn fourths_64(dst: &mut [u8], src: &[u8], first: usize)
+    requires { ⌜ length (now dst) ≡ 64 ⌝ }
+    requires { ⌜ 256 ≤ length (now src) ⌝ }
+    requires { ⌜ first < 4 ⌝ }
+    ensures { λ _. ⌜ now (dst .exit) ≡ paint every (λ k. getD (now (src .entry)) (4 * k + first) 0) (now (dst .entry)) ⌝ }
+{
+    let mut half = [0u8; 128];
+    seconds_128(&mut half, src, first % 2);
+    seconds_64(dst, &half, first / 2);
+}
+
+// dst, at most 64 bytes, becomes every second byte of src, the first being src[first].
+fn seconds_part(dst: &mut [u8], src: &[u8], first: usize)
+    requires { ⌜ length (now dst) ≤ 64 ⌝ }
+    requires { ⌜ 2 * length (now dst) ≤ length (now src) ⌝ }
+    requires { ⌜ first < 2 ⌝ }
+    ensures { λ _. ⌜ now (dst .exit) ≡ paint every (λ k. getD (now (src .entry)) (2 * k + first) 0) (now (dst .entry)) ⌝ }
+{
+    let n = dst.len();
+    if n == 64 {
+        seconds_64(dst, src, first);
+        return;
+    }
+    weave::seconds(dst, src, first, n);
+}
+
+// dst, at most 64 bytes, becomes every fourth byte of src, the first being src[first].
+fn fourths_part(dst: &mut [u8], src: &[u8], first: usize)
+    requires { ⌜ length (now dst) ≤ 64 ⌝ }
+    requires { ⌜ 4 * length (now dst) ≤ length (now src) ⌝ }
+    requires { ⌜ first < 4 ⌝ }
+    ensures { λ _. ⌜ now (dst .exit) ≡ paint every (λ k. getD (now (src .entry)) (4 * k + first) 0) (now (dst .entry)) ⌝ }
+{
+    if dst.len() == 64 {
+        fourths_64(dst, src, first);
+        return;
+    }
+    weave::fourths_of(dst, src, first);
 }
 
 // out becomes every second sample of row `row` of the plane, from column `first` on.
@@ -94,7 +146,7 @@ pub fn seconds_row(out: &mut [u8], plane: &[u8], stride: usize, row: usize, firs
     let n = out.len();
     let mut at = 0;
     while at < n {
-        let end = at + lent::least(n - at, 256);
+        let end = at + lent::least(n - at, 64);
         seconds_part(
             &mut out[at..end],
             &plane[line + 2 * at..line + 2 * end],
@@ -111,5 +163,15 @@ pub fn fourths_row(out: &mut [u8], plane: &[u8], stride: usize, row: usize, firs
     ensures { λ _. ⌜ now (out .exit) ≡ paint every (λ c. sample (now (plane .entry)) stride row (4 * c + first)) (now (out .entry)) ⌝ }
 {
     let line = row * stride;
-    weave::fourths_of(out, &plane[line..line + stride], first);
+    let n = out.len();
+    let mut at = 0;
+    while at < n {
+        let end = at + lent::least(n - at, 64);
+        fourths_part(
+            &mut out[at..end],
+            &plane[line + 4 * at..line + 4 * end],
+            first,
+        );
+        at = end;
+    }
 }

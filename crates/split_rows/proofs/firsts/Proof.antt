@@ -14,7 +14,7 @@ use Rattle.split_rows.proofs.firsts.Statement.{statement}
 use Rattle.split_rows.proofs.firsts.Tie as tie
 
 abbrev Inv-loop : tie.InvT-loop
-Inv-loop dst₀ pairs n i₀ dst i = (n ≡ length dst₀) × (i ≤ n) × (length dst ≡ length dst₀) × (dst ≡ paint (λ k. ltb k i) (λ k. getD pairs k 0 % 256) dst₀)
+Inv-loop dst₀ pairs n i₀ dst i = (n ≡ length pairs) × (i ≤ n) × (length dst ≡ length dst₀) × (dst ≡ paint (λ k. ltb k i) (λ k. getD pairs k 0 % 256) dst₀)
 
 abbrev μ-loop : tie.MeasureT-loop
 μ-loop dst₀ pairs n i₀ dst i = n - i

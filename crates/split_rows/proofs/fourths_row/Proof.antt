@@ -1,50 +1,116 @@
--- `split_rows::fourths_row` meets its contract: the samples that were picked from the row are the plane's.
+-- `split_rows::fourths_row` meets its contract. The invariant: the bytes below `at` are written.
 -- Assumes nothing.
 use borrow.Author.Needs.{needs}
-use Prim.Native.Nat.{_+_, _*_}
+use Prim.Native.Nat.{ℕ, _+_, _-_, _*_, _/_, _%_, _<_, _≤_}
 use native.Mathlib.Omega.{arith}
-use mathlib.Core.Path.{_∙_}
-use Rattle.split_rows.proofs.Rows.{row-picked}
+use mathlib.Core.Path.{_≡_, refl, sym, ap, _∙_}
+use lib.Dec.{ltb}
+use lib.ListN.{length, getD, length-set}
+use borrow.Author.Tests.{le-ltb, lt-ltb}
+use Rattle.lent.specs.Paint.{paint, every}
+use Rattle.lent.specs.Samples.{sample}
+use Rattle.lent.proofs.Paint.{paint-none, paint-next, length-paint}
+use Rattle.weave.proofs.Turns.{paint-every}
+use Rattle.split_rows.proofs.Rows.{picked-next}
 use Rattle.split_rows.proofs.fourths_row.Statement.{statement}
 use Rattle.split_rows.proofs.fourths_row.Tie as tie
 
-mul-line : tie.Need-mul-line
+abbrev Inv-loop : tie.InvT-loop
+Inv-loop out₀ plane stride row first line n at₀ out at = (n ≡ length out₀) × (at ≤ n) × (length out ≡ length out₀) × (out ≡ paint (λ k. ltb k at) (λ k. sample plane stride row (4 * k + first)) out₀)
+
+abbrev μ-loop : tie.MeasureT-loop
+μ-loop out₀ plane stride row first line n at₀ out at = n - at
+
+mul-line : tie.Need-mul-line Inv-loop μ-loop
 mul-line c = search needs
 
-add-fourths-of : tie.Need-add-fourths-of
-add-fourths-of c = search needs
+loop-holds : tie.Need-loop-holds Inv-loop μ-loop
+loop-holds c = (refl, omega arith, refl, paint-none _ _ _ (λ k h. le-ltb k 0 (omega arith)))
 
-sub-fourths-of : tie.Need-sub-fourths-of
-sub-fourths-of c = search needs
+sub-least : tie.Need-sub-least Inv-loop μ-loop
+sub-least c = search needs
 
-part-fourths-of-start : tie.Need-part-fourths-of-start
-part-fourths-of-start c = search needs
+least-requires : tie.Need-least-requires Inv-loop μ-loop
+least-requires c κs = search needs
 
-part-fourths-of-end : tie.Need-part-fourths-of-end
-part-fourths-of-end c = search needs
+add-end : tie.Need-add-end Inv-loop μ-loop
+add-end c = search needs
 
-fourths-of-requires : tie.Need-fourths-of-requires
-fourths-of-requires c κs = search needs
+sub-fourths-part : tie.Need-sub-fourths-part Inv-loop μ-loop
+sub-fourths-part c = search needs
 
-same-length : tie.Need-same-length
-same-length c = search needs
+part-fourths-part-start : tie.Need-part-fourths-part-start Inv-loop μ-loop
+part-fourths-part-start c = search needs
 
-returns : tie.Need-returns
-returns c =
-    let s = c .before .before .before .before .before .before .before in
+part-fourths-part-end : tie.Need-part-fourths-part-end Inv-loop μ-loop
+part-fourths-part-end c = search needs
+
+mul-fourths-part : tie.Need-mul-fourths-part Inv-loop μ-loop
+mul-fourths-part c = search needs
+
+add-fourths-part : tie.Need-add-fourths-part Inv-loop μ-loop
+add-fourths-part c = search needs
+
+mul-fourths-part-2 : tie.Need-mul-fourths-part-2 Inv-loop μ-loop
+mul-fourths-part-2 c = search needs
+
+add-fourths-part-2 : tie.Need-add-fourths-part-2 Inv-loop μ-loop
+add-fourths-part-2 c = search needs
+
+sub-fourths-part-2 : tie.Need-sub-fourths-part-2 Inv-loop μ-loop
+sub-fourths-part-2 c = search needs
+
+part-fourths-part-start-2 : tie.Need-part-fourths-part-start-2 Inv-loop μ-loop
+part-fourths-part-start-2 c = search needs
+
+part-fourths-part-end-2 : tie.Need-part-fourths-part-end-2 Inv-loop μ-loop
+part-fourths-part-end-2 c = search needs
+
+fourths-part-requires : tie.Need-fourths-part-requires Inv-loop μ-loop
+fourths-part-requires c κs = search needs
+
+loop-less : tie.Need-loop-less Inv-loop μ-loop
+loop-less c = search needs
+
+loop-again : tie.Need-loop-again Inv-loop μ-loop
+loop-again c =
+    let p = c .before .before in
+    let l = p .before .before .before .before .before in
+    let s = l .before .before .before in
     let a = s .args in
-    c .before .before .fourths-of .ensures
-    ∙ row-picked (a .plane .now) (a .stride) (a .row) (a .out .now) (λ k. 4 * k + a .first) (λ k h. omega (arith, s .pre .0 .exact, s .pre .1))
+    let end : ℕ = l .loop .at + p .before .before .before .least .result in
+    let next = picked-next 4 (a .stride) (a .row) (a .first) (a .plane .now) (a .out .now) (l .loop .out) _ (l .loop .at) end (omega arith) (omega arith) (l .loop .inv .3) (p .fourths-part .ensures) (λ j h. omega (arith, s .pre .1)) (λ j. omega arith) in
+    (refl, omega arith, ap length next ∙ length-paint _ _ _, next)
+
+same-length : tie.Need-same-length Inv-loop μ-loop
+same-length c = omega arith
+
+returns : tie.Need-returns Inv-loop μ-loop
+returns c = let l = c .before in l .loop .inv .3 ∙ paint-every _ _ _ (l .loop .at) (omega arith) (λ k. refl)
 
 pub fourths-row-spec : {M : Type 1} → statement M
 fourths-row-spec =
     tie.close
     (tie.spec
+    Inv-loop
+    μ-loop
     mul-line
-    add-fourths-of
-    sub-fourths-of
-    part-fourths-of-start
-    part-fourths-of-end
-    fourths-of-requires
+    loop-holds
+    sub-least
+    least-requires
+    add-end
+    sub-fourths-part
+    part-fourths-part-start
+    part-fourths-part-end
+    mul-fourths-part
+    add-fourths-part
+    mul-fourths-part-2
+    add-fourths-part-2
+    sub-fourths-part-2
+    part-fourths-part-start-2
+    part-fourths-part-end-2
+    fourths-part-requires
+    loop-less
+    loop-again
     same-length
     returns)

@@ -10,9 +10,8 @@ use borrow.Author.Tests.{le-ltb, lt-ltb}
 use Rattle.lent.specs.Paint.{paint, every}
 use Rattle.lent.specs.Samples.{sample}
 use Rattle.lent.proofs.Paint.{paint-none, paint-next, length-paint}
-use Rattle.lent.proofs.Samples.{part-sample}
 use Rattle.weave.proofs.Turns.{paint-every}
-use Rattle.split_rows.proofs.Rows.{chunk-next}
+use Rattle.split_rows.proofs.Rows.{picked-next}
 use Rattle.split_rows.proofs.seconds_row.Statement.{statement}
 use Rattle.split_rows.proofs.seconds_row.Tie as tie
 
@@ -80,8 +79,7 @@ loop-again c =
     let s = l .before .before .before in
     let a = s .args in
     let end : ℕ = l .loop .at + p .before .before .before .least .result in
-    let next = chunk-next (a .out .now) (l .loop .out) _ (l .loop .at) end _ (λ k. sample (a .plane .now) (a .stride) (a .row) (2 * k + a .first)) (omega arith) (omega arith) (l .loop .inv .3) (p .seconds-part .ensures)
-    (λ j h. part-sample (a .plane .now) (a .stride) (a .row) (a .row * a .stride) (2 * l .loop .at) (2 * end) (2 * j + a .first) refl (omega (arith, s .pre .1)) ∙ ap (sample (a .plane .now) (a .stride) (a .row)) (omega arith)) in
+    let next = picked-next 2 (a .stride) (a .row) (a .first) (a .plane .now) (a .out .now) (l .loop .out) _ (l .loop .at) end (omega arith) (omega arith) (l .loop .inv .3) (p .seconds-part .ensures) (λ j h. omega (arith, s .pre .1)) (λ j. omega arith) in
     (refl, omega arith, ap length next ∙ length-paint _ _ _, next)
 
 same-length : tie.Need-same-length Inv-loop μ-loop
