@@ -2,14 +2,12 @@
 // out, laid out as V1 or V2 (ports `Yuv444Frame::split`).
 //
 // A split promises its number, the views' sizes and every byte of the six outputs, for every size and every length (specs/Split.antt):
-// each plane of a view is written whole, no byte after it changes, and a refusal writes nothing. The planes are written by split_views.
+// each plane of a view is written whole, no byte after it changes, and a refusal writes nothing. The planes are written by split_both.
 ghost use mathlib.Core.Path.{_≡_};
 ghost use mathlib.Core.Bool.{false};
 ghost use mathlib.Core.List.{[], _∷_};
 ghost use Rattle.layout.specs.declared.Layout.the-variants.{V1, V2};
-ghost use Rattle.picture.specs.Sizes.{strideOf, rowsOf};
-ghost use Rattle.split.specs.Split.{planes, lengthsOf, mainSample, auxSample, Written, tooLarge, viewShort, splitNumberOf, splitAnswerOf, SplitEnds};
-ghost use Rattle.split.specs.Accepted.{Accepted};
+ghost use Rattle.split.specs.Split.{planes, tooLarge, viewShort, splitNumberOf, splitAnswerOf, SplitEnds};
 use layout::Layout;
 
 // What a split answers: the number, and the sizes and strides that both views have; all 0 in a refusal.
@@ -103,30 +101,6 @@ fn split_answer(size: picture::Size, number: u32) -> Views
     }
 }
 
-// Both views of a picture, where all that is lent is long enough.
-fn both_views(
-    layout: Layout,
-    size: picture::Size,
-    y: &[u8],
-    u: &[u8],
-    v: &[u8],
-    main_y: &mut [u8],
-    main_u: &mut [u8],
-    main_v: &mut [u8],
-    aux_y: &mut [u8],
-    aux_u: &mut [u8],
-    aux_v: &mut [u8],
-)
-    requires { ⌜ Accepted size (lengthsOf (planes (now y) (now u) (now v))) (lengthsOf (planes (now «main_y») (now «main_u») (now «main_v»))) (lengthsOf (planes (now «aux_y») (now «aux_u») (now «aux_v»))) ⌝ }
-    ensures { λ _. ⌜ Written (strideOf size) (rowsOf size) (mainSample (strideOf size) (planes (now (y .entry)) (now (u .entry)) (now (v .entry)))) (planes (now («main_y» .entry)) (now («main_u» .entry)) (now («main_v» .entry))) (planes (now («main_y» .exit)) (now («main_u» .exit)) (now («main_v» .exit))) ⌝ }
-    ensures { λ _. ⌜ Written (strideOf size) (rowsOf size) (auxSample layout (strideOf size) (now (u .entry)) (now (v .entry))) (planes (now («aux_y» .entry)) (now («aux_u» .entry)) (now («aux_v» .entry))) (planes (now («aux_y» .exit)) (now («aux_u» .exit)) (now («aux_v» .exit))) ⌝ }
-{
-    let stride = picture::stride(size);
-    let rows = picture::rows(size);
-    split_views::main_view(y, u, v, stride, rows, main_y, main_u, main_v);
-    split_views::aux_view(layout, u, v, stride, rows, aux_y, aux_u, aux_v);
-}
-
 // Both views of the picture, the auxiliary one in the layout that is asked for. Ports `Yuv444Frame::split`.
 pub fn split(
     layout: Layout,
@@ -162,7 +136,7 @@ pub fn split(
     if number != 0 {
         return split_answer(size, number);
     }
-    both_views(
+    split_both::both_views(
         layout,
         size,
         y,

@@ -7,7 +7,7 @@
 --   auxSample t stride u v q r c     the auxiliary view's plane q, at row r and column c: "the same places as above, read backwards",
 --                            so it is the picture's sample at the place that layout's map gives for that spot. A view of a split is as
 --                            wide as the stride, so the map is that of a view of this width
---   v2ChromaSample stride u v first r c    a chroma row of V2, as it is written; the laws v2-u-plane and v2-v-plane say which planes it is
+--   v2ChromaSample stride u v first r c    a chroma row of V2, as it is written; split_aux's law chroma-plane says which planes it is
 --   Written stride rows s old new    a view of stride by rows that holds s was written over three buffers: every byte of its planes, and
 --                            no other
 use Prim.Native.Nat.{ℕ, _+_, _*_, _/_}

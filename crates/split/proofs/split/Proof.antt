@@ -36,32 +36,38 @@ returns c =
     refused _ _ (from k) (main k) (aux k) (k .split-number .ensures) (c .before .if1 .taken) (c .split-answer .ensures)
 
 both-views-requires : tie.Need-both-views-requires
-both-views-requires c κs = fits (c .before .before .before .before .before .before)
+both-views-requires c κs =
+    let f = fits (c .before .before .before .before .before .before) in
+    (f .y-whole, (f .u-whole, (f .v-whole, (f .main-room, f .aux-room))))
 
 split-answer-requires-2 : tie.Need-split-answer-requires-2
 split-answer-requires-2 c κs = λ e. fits (c .before .before .before .before .before .before .before .before .before .before .before .before .before .before .before .before .before .before .before) .small
 
+-- both views are written
+abbrev written : tie.After-split-answer2 → tie.After-both-views
+written c = c .before .before .before .before .before .before .before .before .before .before .before .before .before
+
 same-length : tie.Need-same-length
-same-length c = search needs
+same-length c = written c .both-views .kept .1 .1 .1 .1 .1 .0
 
 same-length-2 : tie.Need-same-length-2
-same-length-2 c = search needs
+same-length-2 c = written c .both-views .kept .1 .1 .1 .1 .1 .1 .0
 
 same-length-3 : tie.Need-same-length-3
-same-length-3 c = search needs
+same-length-3 c = written c .both-views .kept .1 .1 .1 .1 .1 .1 .1 .0
 
 same-length-4 : tie.Need-same-length-4
-same-length-4 c = search needs
+same-length-4 c = written c .both-views .kept .1 .1 .1 .1 .1 .1 .1 .1 .0
 
 same-length-5 : tie.Need-same-length-5
-same-length-5 c = search needs
+same-length-5 c = written c .both-views .kept .1 .1 .1 .1 .1 .1 .1 .1 .1 .0
 
 same-length-6 : tie.Need-same-length-6
-same-length-6 c = search needs
+same-length-6 c = written c .both-views .kept .1 .1 .1 .1 .1 .1 .1 .1 .1 .1 .0
 
 returns-2 : tie.Need-returns-2
 returns-2 c =
-    let b = c .before .before .before .before .before .before .before .before .before .before .before .before .before in
+    let b = written c in
     let e = b .before .before .before .before .before .before .before in
     let k = e .before in
     done _ _ (from k) (main k) (aux k) (k .split-number .ensures) (e .if1 .left) (c .split-answer2 .ensures) (b .both-views .ensures .0) (b .both-views .ensures .1)

@@ -1,0 +1,2 @@
+-- What a row of the auxiliary view holds, case by case.
+pub mod Spots

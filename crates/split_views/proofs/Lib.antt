@@ -1,2 +1,0 @@
--- What the auxiliary view holds, case by case.
-pub mod Spots
