@@ -124,13 +124,16 @@ put-evens-requires c κs =
     let l = o .before .before .before in
     let f = l .before .before .before in
     let p = entry f .pre .0 in
+    -- both planes have the row, in whatever order they are handed on: which is which is said by what is written alone
+    let in-u = seen o _ (view-row f .0) in
+    let in-v = seen o _ (view-row f .1) in
     record {
       plane-fits = rw (c .before .before .stride .ensures .0, c .before .rows .ensures .0) (p .plane-fits);
       row-inside = omega (arith, c .before .rows .ensures .0, p .rows-inside);
       ordered = omega (arith, o .before .before .if2 .left);
       inside = omega (arith, c .before .before .stride .ensures .0, p .inside, stops l);
-      seen-u = seen o _ (view-row f .0);
-      seen-v = seen o _ (view-row f .1);
+      seen-u = omega (arith, in-u, in-v);
+      seen-v = omega (arith, in-u, in-v);
       even-left = p .even-left;
       even-right = omega (arith, p .even-right, stops l);
     }

@@ -177,15 +177,18 @@ put-full-requires c κs =
     let row-inside : s .args .row < c .before .rows .result = omega (arith, c .before .rows .ensures .0, p .rows-inside) in
     let ordered : s .args .left ≤ t .before .least .result = omega (arith, t .if2 .left) in
     let inside : t .before .least .result ≤ c .before .before .stride .result = omega (arith, c .before .before .stride .ensures .0, p .inside, stops t) in
-    let even-right : t .before .least .result % 2 ≡ 0 = omega (arith, p .even-right, stops t) in (
+    let even-right : t .before .least .result % 2 ≡ 0 = omega (arith, p .even-right, stops t) in
+    -- both chroma planes have the row, in whatever order they are handed on
+    let in-u = chroma-seen o _ (s .pre .1 .u-long) in
+    let in-v = chroma-seen o _ (s .pre .1 .v-long) in (
       record { plane-fits = fits; row-inside = row-inside; ordered = ordered; inside = inside; seen = luma-seen (o .before); even-left = p .even-left; even-right = even-right },
       record {
         plane-fits = fits;
         row-inside = row-inside;
         ordered = ordered;
         inside = inside;
-        seen-u = chroma-seen o _ (s .pre .1 .u-long);
-        seen-v = chroma-seen o _ (s .pre .1 .v-long);
+        seen-u = omega (arith, in-u, in-v);
+        seen-v = omega (arith, in-u, in-v);
         even-left = p .even-left;
         even-right = even-right;
       },
