@@ -43,7 +43,7 @@ fn put_rows(
     let mut r: usize = 0;
     while r < h {
         let start = r * wide;
-        convert_rows::put_row(
+        convert_picture_rows::put_row(
             &mut out[start..start + wide],
             y,
             u,
@@ -140,7 +140,7 @@ fn view_rows(
     let mut r: usize = 0;
     while r < h {
         let start = r * wide;
-        convert_rows::view_row(&mut out[start..start + wide], y, u, v, luma, chroma, r, n);
+        convert_view_rows::view_row(&mut out[start..start + wide], y, u, v, luma, chroma, r, n);
         r += 1;
     }
 }

@@ -78,9 +78,9 @@ module _ (stride row left : ℕ) (y u v xs : List ℕ) (j at m : ℕ) {was mid i
       (even-step stride row left y u v xs j at (j + 1) before first (omega arith) here refl even-row even-col smooth)
       second (omega arith) (omega arith) (omega arith) (omega arith) plain
 
--- an even row of an even number of rows has a row below it
-pub two-rows : (stride rows row : ℕ) → row % 2 ≡ 0 → rows % 2 ≡ 0 → row < rows → row * stride + 2 * stride ≤ rows * stride
-two-rows stride rows row e f lt = omega (arith, row-in stride rows (row + 1) (omega arith), next-row stride row)
+-- a row that has a row below it
+pub two-rows : (stride rows row : ℕ) → row + 2 ≤ rows → row * stride + 2 * stride ≤ rows * stride
+two-rows stride rows row lt = omega (arith, row-in stride rows (row + 1) (omega arith), next-row stride row)
 
 -- a pixel of a view's row, by any colour matrix
 pub view-step : (m : ℕ → ℕ → ℕ → List ℕ) (luma chroma row : ℕ) (y u v xs : List ℕ) (j at c k : ℕ) {was is p : List ℕ} → was ≡ done (viewPixelAt m luma chroma y u v row) j xs → is ≡ stored was (4 * j) p → 4 * j + 4 ≤ length xs → at ≡ row * luma + j → c ≡ row / 2 * chroma + j / 2 → k ≡ j + 1 → p ≡ m (getD y at 0) (getD u c 0) (getD v c 0) → is ≡ done (viewPixelAt m luma chroma y u v row) k xs

@@ -1,20 +1,20 @@
--- `convert_rows::odd_row` meets its contract. The invariant: the first i pixels are done.
+-- `convert_picture_rows::odd_row` meets its contract. The invariant: the first i pixels are done, where the row is odd.
 -- Assumes nothing.
-use Prim.Native.Nat.{_-_, _≤_}
+use Prim.Native.Nat.{_-_, _%_, _≤_}
 use native.Mathlib.Omega.{arith}
 use mathlib.Core.Path.{_≡_, refl, _∙_}
 use borrow.Author.Needs.{needs}
 use lib.ListN.{length}
 use Rattle.lent.specs.Pixels.{done}
 use Rattle.lent.proofs.Pixels.{done-none, done-all}
 use Rattle.convert_rows.specs.Rules.{pixelAt, rowFrom}
 use Rattle.convert_rows.proofs.Rules.{odd-row-step}
-use Rattle.convert_rows.proofs.odd_row.Statement.{statement}
-use Rattle.convert_rows.proofs.odd_row.Tie as tie
+use Rattle.convert_picture_rows.proofs.odd_row.Statement.{statement}
+use Rattle.convert_picture_rows.proofs.odd_row.Tie as tie
 
 abbrev Inv-loop : tie.InvT-loop
 Inv-loop out₀ y u v stride row left n at i₀ out i =
-    (i ≤ n) × (length out ≡ length out₀) × (out ≡ done (rowFrom left (pixelAt stride y u v row)) i out₀)
+    (i ≤ n) × (length out ≡ length out₀) × (row % 2 ≡ 1 → out ≡ done (rowFrom left (pixelAt stride y u v row)) i out₀)
 
 abbrev μ-loop : tie.MeasureT-loop
 μ-loop out₀ y u v stride row left n at i₀ out i = n - i
@@ -26,7 +26,7 @@ add-at : tie.Need-add-at Inv-loop μ-loop
 add-at c = omega arith
 
 loop-holds : tie.Need-loop-holds Inv-loop μ-loop
-loop-holds c = (search needs, refl, done-none _ _)
+loop-holds c = (search needs, refl, λ odd. done-none _ _)
 
 add-here : tie.Need-add-here Inv-loop μ-loop
 add-here c = omega arith
@@ -51,14 +51,14 @@ loop-again c =
     let a = s .args in (
       search needs,
       search needs,
-      odd-row-step (a .stride) (a .row) (a .left) _ _ _ _ (l .loop .i) _ _ (l .loop .inv .2) (p .put-pixel .ensures) (omega arith) refl refl (s .pre .1) (p .before .plain .ensures),
+      λ odd. odd-row-step (a .stride) (a .row) (a .left) _ _ _ _ (l .loop .i) _ _ (l .loop .inv .2 odd) (p .put-pixel .ensures) (omega arith) refl refl odd (p .before .plain .ensures),
     )
 
 same-length : tie.Need-same-length Inv-loop μ-loop
 same-length c = search needs
 
 returns : tie.Need-returns Inv-loop μ-loop
-returns c = let l = c .before in l .loop .inv .2 ∙ done-all _ _ (l .loop .i) (omega arith)
+returns c = let l = c .before in λ odd. l .loop .inv .2 odd ∙ done-all _ _ (l .loop .i) (omega arith)
 
 pub odd-row-spec : {M : Type 1} → statement M
 odd-row-spec =

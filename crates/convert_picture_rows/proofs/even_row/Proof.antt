@@ -1,4 +1,5 @@
--- `convert_rows::even_row` meets its contract. The invariant: in whatever row the pixels before the loop were done, those of i pairs more are done.
+-- `convert_picture_rows::even_row` meets its contract. The invariant: where the row is even, and in whatever row the
+-- pixels before the loop were done, those of i pairs more are done.
 -- Assumes nothing.
 use Prim.Native.Nat.{ℕ, _+_, _*_, _/_, _%_, _-_, _≤_}
 use native.Mathlib.Omega.{arith}
@@ -8,14 +9,14 @@ use borrow.Author.Needs.{needs}
 use lib.ListN.{length}
 use Rattle.lent.specs.Pixels.{done}
 use Rattle.lent.proofs.Pixels.{done-at, done-all}
 use Rattle.convert_rows.specs.Rules.{pixelAt, rowFrom}
 use Rattle.convert_rows.proofs.Rules.{even-step, pair-step}
-use Rattle.convert_rows.proofs.even_row.Statement.{statement}
-use Rattle.convert_rows.proofs.even_row.Tie as tie
+use Rattle.convert_picture_rows.proofs.even_row.Statement.{statement}
+use Rattle.convert_picture_rows.proofs.even_row.Tie as tie
 
 abbrev Inv-loop : tie.InvT-loop
 Inv-loop out₀ y u v stride row left n at first pairs i₀ out i =
-    (i ≤ pairs) × (length out ≡ length out₀) × ((xs : List ℕ) → length xs ≡ length out₀ → out₀ ≡ done (rowFrom left (pixelAt stride y u v row)) first xs → out ≡ done (rowFrom left (pixelAt stride y u v row)) (first + 2 * i) xs)
+    (i ≤ pairs) × (length out ≡ length out₀) × (row % 2 ≡ 0 → (xs : List ℕ) → length xs ≡ length out₀ → out₀ ≡ done (rowFrom left (pixelAt stride y u v row)) first xs → out ≡ done (rowFrom left (pixelAt stride y u v row)) (first + 2 * i) xs)
 
 abbrev μ-loop : tie.MeasureT-loop
 μ-loop out₀ y u v stride row left n at first pairs i₀ out i = pairs - i
@@ -33,7 +34,7 @@ sub-pairs : tie.Need-sub-pairs Inv-loop μ-loop
 sub-pairs c = omega arith
 
 loop-holds : tie.Need-loop-holds Inv-loop μ-loop
-loop-holds c = (omega arith, refl, λ xs e h. done-at _ _ _ _ h (omega arith))
+loop-holds c = (omega arith, refl, λ even xs e h. done-at _ _ _ _ h (omega arith))
 
 mul-j : tie.Need-mul-j Inv-loop μ-loop
 mul-j c = omega arith
@@ -82,7 +83,7 @@ loop-again c =
     let j = a .left % 2 + 2 * l .loop .i in (
       omega arith,
       omega arith,
-      λ xs e b. pair-step (a .stride) (a .row) (a .left) (a .y .now) (a .u .now) (a .v .now) xs j (at + j) _ (l .loop .inv .2 xs e b) (one .put-pixel .ensures) (second .put-pixel2 .ensures)
+      λ even xs e b. pair-step (a .stride) (a .row) (a .left) (a .y .now) (a .u .now) (a .v .now) xs j (at + j) _ (l .loop .inv .2 even xs e b) (one .put-pixel .ensures) (second .put-pixel2 .ensures)
           (omega arith) refl (omega arith) (omega arith) (omega arith) (one .before .smooth .ensures) (second .before .plain .ensures),
     )
 
@@ -116,8 +117,8 @@ returns c =
     let a = s .args in
     let at = a .row * a .stride + a .left in
     let end = a .left % 2 + 2 * ((a .n - a .left % 2) / 2) in
-    even-step (a .stride) (a .row) (a .left) _ _ _ _ end (at + end) (end + 1)
-    (done-at _ _ _ end (l .loop .inv .2 (a .out .now) (omega arith) (h .even-head .ensures)) (omega arith)) (last .put-pixel3 .ensures)
+    λ even. even-step (a .stride) (a .row) (a .left) _ _ _ _ end (at + end) (end + 1)
+    (done-at _ _ _ end (l .loop .inv .2 even (a .out .now) (omega arith) (h .even-head .ensures)) (omega arith)) (last .put-pixel3 .ensures)
     (omega arith) refl refl (omega arith) (omega arith) (last .before .smooth2 .ensures)
     ∙ done-all _ _ (end + 1) (omega arith)
 
@@ -129,7 +130,7 @@ returns-2 c =
     let l = c .before .before in
     let h = l .before .before .before in
     let a = h .before .before .before .before .before .before .args in
-    l .loop .inv .2 (a .out .now) (omega arith) (h .even-head .ensures) ∙ done-all _ _ (a .left % 2 + 2 * l .loop .i) (omega arith)
+    λ even. l .loop .inv .2 even (a .out .now) (omega arith) (h .even-head .ensures) ∙ done-all _ _ (a .left % 2 + 2 * l .loop .i) (omega arith)
 
 pub even-row-spec : {M : Type 1} → statement M
 even-row-spec =

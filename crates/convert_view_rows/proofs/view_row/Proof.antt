@@ -1,4 +1,4 @@
--- `convert_rows::view_row` meets its contract. The invariant: the pixels of the first i pairs are done.
+-- `convert_view_rows::view_row` meets its contract. The invariant: the pixels of the first i pairs are done.
 -- Assumes nothing.
 use Prim.Native.Nat.{_+_, _*_, _/_, _-_, _≤_}
 use native.Mathlib.Omega.{arith}
@@ -8,10 +8,10 @@ use lib.ListN.{length}
 use Rattle.colour.specs.Colour.{reverseOf}
 use Rattle.lent.specs.Pixels.{done}
 use Rattle.lent.proofs.Pixels.{done-none, done-at, done-all}
 use Rattle.convert_rows.specs.Rules.{viewPixelAt}
 use Rattle.convert_rows.proofs.Rules.{view-step}
-use Rattle.convert_rows.proofs.view_row.Statement.{statement}
-use Rattle.convert_rows.proofs.view_row.Tie as tie
+use Rattle.convert_view_rows.proofs.view_row.Statement.{statement}
+use Rattle.convert_view_rows.proofs.view_row.Tie as tie
 
 abbrev Inv-loop : tie.InvT-loop
 Inv-loop out₀ y u v luma chroma row n at half pairs i₀ out i =

@@ -1,13 +1,13 @@
--- `convert_rows::even_head` meets its contract: an odd first column is one pixel that no filter touches, and an even one is left to the pairs.
+-- `convert_picture_rows::even_head` meets its contract: an odd first column is one pixel that no filter touches, and an even one is left to the pairs.
 -- Assumes nothing.
 use Prim.Native.Nat.{_+_, _*_, _%_, _-_}
 use native.Mathlib.Omega.{arith}
 use Rattle.lent.proofs.Pixels.{done-none, done-at}
 use Rattle.convert_rows.specs.Rules.{pixelAt, rowFrom}
 use Rattle.convert_rows.proofs.Rules.{odd-col-step}
 use borrow.Author.Needs.{needs}
-use Rattle.convert_rows.proofs.even_head.Statement.{statement}
-use Rattle.convert_rows.proofs.even_head.Tie as tie
+use Rattle.convert_picture_rows.proofs.even_head.Statement.{statement}
+use Rattle.convert_picture_rows.proofs.even_head.Tie as tie
 
 mul-at : tie.Need-mul-at
 mul-at c = omega arith
