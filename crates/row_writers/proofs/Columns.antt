@@ -69,17 +69,21 @@ turn-room col n e e′ =
     halves : (a b : ℕ) → (a % 2 + b + 1) / 2 + a / 2 ≡ (a + b + 1) / 2
     halves a b = omega arith
 
+turns-le : (a b n : ℕ) → a ≤ b → (a + n + 1) / 2 ≤ (b + n + 1) / 2
+turns-le a b n h = omega arith
+
 part-long : (xs : List ℕ) (a e n : ℕ) → a + n ≡ e → e ≤ length xs → length (take (e - a) (drop a xs)) ≡ n
 part-long xs a e n h fits = length-take-le (e - a) (drop a xs) (simp length-drop (omega arith)) ∙ omega arith
 
--- what `even_part` asks of the parts
-pub even-asks : (dst u v : List ℕ) (line at col n : ℕ) → col % 2 ≡ 0 → n % 2 ≡ 0 → n ≤ 252 → line + (col + n) ≤ length dst → at + ((col + n) / 2 + 1) / 2 ≤ length u → at + ((col + n) / 2 + 1) / 2 ≤ length v
+-- what `even_part` asks of the parts: as many turns are there as are read from the first one on, or from a later one
+pub even-asks : {lead : ℕ} (dst u v : List ℕ) (line at col n : ℕ) → col % 2 ≡ 0 → n % 2 ≡ 0 → n ≤ 252 → line + (col + n) ≤ length dst → at + ((col + n) / 2 + 1) / 2 ≤ length u → at + ((col + n) / 2 + 1) / 2 ≤ length v
+    → lead ≤ col / 2 % 2
     → let p = length (take (line + (col + n) - (line + col)) (drop (line + col) dst)) in
     let q : List ℕ → ℕ = λ l. length (take (at + ((col + n) / 2 + 1) / 2 - (at + col / 4)) (drop (at + col / 4) l)) in
-    (p % 2 ≡ 0) × ((p ≤ 252) × ((col / 2 % 2 < 2) × (((col / 2 % 2 + p / 2 + 1) / 2 ≤ q u) × ((col / 2 % 2 + p / 2 + 1) / 2 ≤ q v))))
-even-asks dst u v line at col n e e′ few hd hu hv =
+    (p % 2 ≡ 0) × ((p ≤ 252) × ((lead < 2) × (((lead + p / 2 + 1) / 2 ≤ q u) × ((lead + p / 2 + 1) / 2 ≤ q v))))
+even-asks {lead} dst u v line at col n e e′ few hd hu hv first =
     rw (part-long dst (line + col) (line + (col + n)) n (omega arith) hd, part-long u (at + col / 4) (at + ((col + n) / 2 + 1) / 2) m (sum e e′) hu, part-long v (at + col / 4) (at + ((col + n) / 2 + 1) / 2) m (sum e e′) hv)
-    (e′, (few, (omega arith, (omega arith, omega arith))))
+    (e′, (few, (omega arith, (room, room))))
   where
     m : ℕ
     m = (col / 2 % 2 + n / 2 + 1) / 2
@@ -87,12 +91,15 @@ even-asks dst u v line at col n e e′ few hd hu hv =
     sum : col % 2 ≡ 0 → n % 2 ≡ 0 → at + col / 4 + m ≡ at + ((col + n) / 2 + 1) / 2
     sum e e′ = omega (arith, turn-room col n e e′)
 
+    room : (lead + n / 2 + 1) / 2 ≤ m
+    room = turns-le lead (col / 2 % 2) (n / 2) first
+
 pub full-asks : (dst src u v : List ℕ) (line luma at col n : ℕ) → (col % 2 ≡ 0) × (n % 2 ≡ 0) × (n ≤ 252) × (line + (col + n) ≤ length dst) × (at + ((col + n) / 2 + 1) / 2 ≤ length u) × (at + ((col + n) / 2 + 1) / 2 ≤ length v) × (luma + (col + n) / 2 ≤ length src)
     → let p = length (take (line + (col + n) - (line + col)) (drop (line + col) dst)) in
     let q : List ℕ → ℕ = λ l. length (take (at + ((col + n) / 2 + 1) / 2 - (at + col / 4)) (drop (at + col / 4) l)) in
     (p % 2 ≡ 0) × ((p ≤ 252) × ((col / 2 % 2 < 2) × (((col / 2 % 2 + p / 2 + 1) / 2 ≤ q u) × (((col / 2 % 2 + p / 2 + 1) / 2 ≤ q v) × (p ≤ 2 * length (take (luma + (col + n) / 2 - (luma + col / 2)) (drop (luma + col / 2) src)))))))
 full-asks dst src u v line luma at col n h =
-    let f = even-asks dst u v line at col n (h .0) (h .1) (h .2) (h .3) (h .4) (h .5) in
+    let f = even-asks {lead = col / 2 % 2} dst u v line at col n (h .0) (h .1) (h .2) (h .3) (h .4) (h .5) (omega arith) in
     (f .0, (f .1 .0, (f .1 .1 .0, (f .1 .1 .1 .0, (f .1 .1 .1 .1, last)))))
   where
     last : length (take (line + (col + n) - (line + col)) (drop (line + col) dst)) ≤ 2 * length (take (luma + (col + n) / 2 - (luma + col / 2)) (drop (luma + col / 2) src))

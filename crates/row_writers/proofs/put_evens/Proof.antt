@@ -90,7 +90,7 @@ even-part-requires c κs =
     let least = c .before .before .before in
     let l = least .before .before in
     let s = start least in
-    even-asks (l .loop .dst) (s .args .u .now) (s .args .v .now) (s .args .row * s .args .stride) (s .args .at) (l .loop .col) (least .least .result) (omega arith) (omega arith) (omega arith) (omega (arith, dst-row s)) (omega arith) (omega arith)
+    even-asks (l .loop .dst) (s .args .u .now) (s .args .v .now) (s .args .row * s .args .stride) (s .args .at) (l .loop .col) (least .least .result) (omega arith) (omega arith) (omega arith) (omega (arith, dst-row s)) (omega arith) (omega arith) (omega arith)
 
 loop-less : tie.Need-loop-less Inv-loop μ-loop
 loop-less c = omega arith
