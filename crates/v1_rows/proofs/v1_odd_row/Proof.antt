@@ -25,12 +25,15 @@ entry f = f .before .before .before .before .before .before .before .before .bef
 abbrev second-of : tie.After-at → tie.After-second
 second-of f = f .before .before .before .before
 
+below : {n m h : ℕ} → n ≡ m → n + 8 < h → m + 8 < h
+below e lt = omega arith
+
 -- both rows of the pair exist
 pair-there : (f : tie.After-at) → let a = entry f .args in upperOf (a .row) + 8 < a .w .height
 pair-there f =
     let b = second-of f .before .before in
     let t = rowStart-at _ _ _ _ (sym (b .before .before .row-start .ensures) ∙ b .-below .given .1) in
-    omega (arith, t .0, b .before .before .before .before .upper .ensures)
+    below (b .before .before .before .before .upper .ensures) (t .0)
 
 -- the own row, and where it starts
 own : (o : tie.After-second) → let u = o .before .before .before .before .before .before in let a = u .before .before .before .args in u .upper .result + o .second .result ≡ upperOf (a .row) + shift (a .which) 8
