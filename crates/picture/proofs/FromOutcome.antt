@@ -21,9 +21,10 @@ use Rattle.colour.specs.declared.Yuv.{Yuv}
 use Rattle.averages.specs.Averaged.{averaged}
 use Rattle.picture.specs.declared.Size.{Size}
 use Rattle.picture.specs.Sizes.{strideOf, rowsOf, planesShort, planeOf}
-use Rattle.picture.specs.FromRgba.{colourAt, convertedOf, inPicture, SamePixels, rgbaShort, fromNumberOf, fromBuffersOf}
+use Rattle.picture.specs.FromRgba.{convertedOf, inPicture, SamePixels, rgbaShort, fromNumberOf, fromBuffersOf}
 use Rattle.averages.proofs.Blocks.{averaged-painted}
-use Rattle.picture.proofs.Padding.{picture-facts}
+use Rattle.rgba_rows.specs.Rows.{colourAt}
+use Rattle.rgba_rows.proofs.Padding.{inside-facts}
 
 module _ (z : Size) (n ny nu nv : ℕ) where
   pub from-2-exactly : (fromNumberOf z n ny nu nv ≡ 2) ↔ (Unit {0} × (rgbaShort z n ≡ true))
@@ -62,7 +63,7 @@ module _ (z : Size) (px qx : List ℕ) (agree : SamePixels z px qx) where
   pixel : (r c : ℕ) → inPicture z r c ≡ true → convertedOf px z r c ≡ convertedOf qx z r c
   unfolding colourAt
   pixel r c e =
-      let f = picture-facts z r c e in
+      let f = inside-facts (z .width) (z .height) r c e in
       let red : getD px (4 * (r * z .width + c)) 0 ≡ getD qx (4 * (r * z .width + c)) 0 = simp add-zero at (agree .same r c 0 (f .0) (f .1) (omega arith)) in
       λ i. forwardOf (red i) (agree .same r c 1 (f .0) (f .1) (omega arith) i) (agree .same r c 2 (f .0) (f .1) (omega arith) i)
 

@@ -2,8 +2,4 @@
 pub mod Sizes
 pub mod Calls
 pub mod NewOutcome
-pub mod PartRows
-pub mod Padding
-pub mod SoFar
-pub mod Converted
 pub mod FromOutcome

@@ -1,48 +1,34 @@
 -- A picture from RGBA pixels (document 01, "From RGBA", refusals 2 and 1, and the order "from RGBA 2, 1").
 --
---   colourAt px k          Y, U and V of pixel k of the bytes px: four bytes a pixel, red, green, blue and an alpha that is ignored
---   convertedOf px z r c   the same of the input's pixel at row r, column c
---   inPicture z r c        row r, column c is within the width and height; the rest of a plane is padding
---   paddingFromOf z r      the column from which row r is padding
+--   convertedOf px z r c   Y, U and V of the input's pixel at row r, column c: four bytes a pixel, red, green, blue and an alpha that is
+--                          ignored (said in rgba_rows)
+--   inPicture z r c        row r, column c is within the width and height; the rest of a plane is padding (said in rgba_rows)
 --   lumaPlane, chromaUPlane, chromaVPlane z px r c     each plane before the average: the converted pixels, and padding as in a fresh picture
 --   SamePixels z px qx     px and qx agree in the red, green and blue of every pixel of the picture: "Input after width x height x 4 bytes is
 --                          ignored, and so is its alpha"
---   RowFits npx ny nu nv   a row's pixels are four bytes for each of its samples
 --   rgbaShort z n          refusal 2: n bytes are fewer than width x height x 4
 --   fromNumberOf z n ny nu nv    the number that `from_rgba` answers, n being the input's length, ny, nu and nv the planes'
 --   fromBuffersOf px z y u v     what the three lent buffers hold after `from_rgba`
 use Prim.Native.Nat.{ℕ, _+_, _*_, _<_}
 use mathlib.Core.Path.{_≡_}
-use mathlib.Core.Bool.{Bool, cond, _&&_}
+use mathlib.Core.Bool.{Bool, cond}
 use mathlib.Core.List.{List, [], _∷_}
 use lib.Dec.{ltb}
 use lib.ListN.{length, getD}
 use Rattle.lent.specs.Outcome.{lentAfter}
 use Rattle.lent.specs.Refusal.{refusal}
-use Rattle.colour.specs.Colour.{forwardOf}
 use Rattle.colour.specs.declared.Yuv.{Yuv}
 use Rattle.averages.specs.Averaged.{averaged}
+use Rattle.rgba_rows.specs.Rows.{pixelAt, inside}
 use Rattle.picture.specs.declared.Size.{Size}
 use Rattle.picture.specs.Sizes.{planesShort, planeOf}
 use Rattle.picture.specs.New.{freshLuma, freshChroma}
 
-unfoldable pub colourAt : List ℕ → ℕ → Yuv
-colourAt px k = forwardOf (getD px (4 * k) 0) (getD px (4 * k + 1) 0) (getD px (4 * k + 2) 0)
-
-pub record RowFits (npx ny nu nv : ℕ) : Type 0 where
-  pub pixels : npx ≡ 4 * ny
-  pub same-u : nu ≡ ny
-  pub same-v : nv ≡ ny
-
--- "convert each pixel": they are packed, row after row of `width` pixels
 abbrev pub convertedOf : List ℕ → Size → ℕ → ℕ → Yuv
-convertedOf px z r c = colourAt px (r * z .width + c)
+convertedOf px z = pixelAt px (z .width)
 
-unfoldable pub inPicture : Size → ℕ → ℕ → Bool
-inPicture z r c = ltb r (z .height) && ltb c (z .width)
-
-abbrev pub paddingFromOf : Size → ℕ → ℕ
-paddingFromOf z r = cond (ltb r (z .height)) (z .width) 0
+abbrev pub inPicture : Size → ℕ → ℕ → Bool
+inPicture z = inside (z .width) (z .height)
 
 -- "Padding holds 128" in U and V, and 0 in Y, as in the fresh picture that the Rust starts from
 abbrev pub lumaPlane : Size → List ℕ → ℕ → ℕ → ℕ

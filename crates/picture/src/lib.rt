@@ -4,27 +4,14 @@
 // its lent buffer; bytes after it never change. `new` and `from_rgba` promise their number and every byte of the three buffers, for
 // every size and every length: a refusal alters nothing.
 ghost use mathlib.Core.Path.{_≡_};
-ghost use mathlib.Core.Bool.{not};
 ghost use mathlib.Core.List.{[], _∷_};
 ghost use Prim.Native.Nat.{_*_, _≤_};
 ghost use lib.ListN.{length};
 ghost use Rattle.lent.specs.Outcome.{Outcome, answerOf};
-ghost use Rattle.lent.specs.Paint.{paint, painted, every, whole};
-ghost use Rattle.picture.specs.Sizes.{strideOf, rowsOf, allocationSizeOf, planesShort, PlanesFit, planeOf};
+ghost use Rattle.lent.specs.Paint.{painted, whole};
+ghost use Rattle.picture.specs.Sizes.{strideOf, rowsOf, allocationSizeOf, planesShort};
 ghost use Rattle.picture.specs.New.{newNumberOf, newBuffersOf};
-ghost use Rattle.picture.specs.FromRgba.{
-  colourAt,
-  convertedOf,
-  inPicture,
-  paddingFromOf,
-  lumaPlane,
-  chromaUPlane,
-  chromaVPlane,
-  RowFits,
-  rgbaShort,
-  fromNumberOf,
-  fromBuffersOf,
-};
+ghost use Rattle.picture.specs.FromRgba.{rgbaShort, fromNumberOf, fromBuffersOf};
 
 // A picture's width and height in pixels.
 pub struct Size {
@@ -108,80 +95,6 @@ pub fn new(size: Size, y: &mut [u8], u: &mut [u8], v: &mut [u8]) -> lent::Answer
     }
 }
 
-// The column from which row `row` is padding.
-fn padding_from(size: Size, row: usize) -> usize
-    ensures { λ r. ⌜ r ≡ paddingFromOf size row ⌝ }
-{
-    let height = size.height as usize;
-    if row < height {
-        return size.width as usize;
-    }
-    0
-}
-
-// All of the plane but the picture's own rows and columns holds `value`.
-fn pad_plane(plane: &mut [u8], size: Size, value: u8)
-    requires { ⌜ rowsOf size * strideOf size ≤ length (now plane) ⌝ }
-    ensures { λ _. ⌜ now (plane .exit) ≡ painted (strideOf size) (rowsOf size) (λ r c. not (inPicture size r c)) (λ r c. value) (now (plane .entry)) ⌝ }
-{
-    let stride = stride(size);
-    let rows = rows(size);
-    let mut row = 0;
-    while row < rows {
-        let line = row * stride;
-        let from = padding_from(size, row);
-        lent::fill(&mut plane[line + from..line + stride], value);
-        row += 1;
-    }
-}
-
-// Y, U and V of a row of pixels, in one pass.
-fn forward_row(pixels: &[u8], y: &mut [u8], u: &mut [u8], v: &mut [u8])
-    requires { ⌜ RowFits (length (now pixels)) (length (now y)) (length (now u)) (length (now v)) ⌝ }
-    ensures y { λ _. ⌜ now (y .exit) ≡ paint every (λ k. colourAt (now (pixels .entry)) k .y) (now (y .entry)) ⌝ }
-    ensures u { λ _. ⌜ now (u .exit) ≡ paint every (λ k. colourAt (now (pixels .entry)) k .u) (now (u .entry)) ⌝ }
-    ensures v { λ _. ⌜ now (v .exit) ≡ paint every (λ k. colourAt (now (pixels .entry)) k .v) (now (v .entry)) ⌝ }
-{
-    let n = y.len();
-    let mut i = 0;
-    while i < n {
-        let r = pixels[4 * i];
-        let g = pixels[4 * i + 1];
-        let b = pixels[4 * i + 2];
-        let p = colour::forward(r, g, b);
-        y[i] = p.y;
-        u[i] = p.u;
-        v[i] = p.v;
-        i += 1;
-    }
-}
-
-// The picture's own rows and columns of the three planes hold the converted pixels.
-fn forward_rows(rgba: &[u8], size: Size, y: &mut [u8], u: &mut [u8], v: &mut [u8])
-    requires { ⌜ size .width * size .height * 4 ≤ length (now rgba) ⌝ }
-    requires { ⌜ PlanesFit size (length (now y)) (length (now u)) (length (now v)) ⌝ }
-    ensures y { λ _. ⌜ now (y .exit) ≡ painted (strideOf size) (rowsOf size) (inPicture size) (λ r c. convertedOf (now (rgba .entry)) size r c .y) (now (y .entry)) ⌝ }
-    ensures u { λ _. ⌜ now (u .exit) ≡ painted (strideOf size) (rowsOf size) (inPicture size) (λ r c. convertedOf (now (rgba .entry)) size r c .u) (now (u .entry)) ⌝ }
-    ensures v { λ _. ⌜ now (v .exit) ≡ painted (strideOf size) (rowsOf size) (inPicture size) (λ r c. convertedOf (now (rgba .entry)) size r c .v) (now (v .entry)) ⌝ }
-{
-    let stride = stride(size);
-    let width = size.width as usize;
-    let height = size.height as usize;
-    let mut row = 0;
-    while row < height {
-        let line = row * stride;
-        let end = line + width;
-        let at = 4 * (row * width);
-        forward_row(
-            &rgba[at..at + 4 * width],
-            &mut y[line..end],
-            &mut u[line..end],
-            &mut v[line..end],
-        );
-        row += 1;
-    }
-}
-
 // Refusal 2: n bytes of RGBA are fewer than width x height x 4.
 fn rgba_short(size: Size, n: usize) -> bool
     ensures { λ r. ⌜ r ≡ rgbaShort size n ⌝ }
@@ -204,20 +117,6 @@ fn from_number(size: Size, n: usize, ny: usize, nu: usize, nv: usize) -> u32
     0
 }
 
-// The three planes of a picture that is not refused, before the averages: padding, then the converted pixels.
-fn convert_planes(rgba: &[u8], size: Size, y: &mut [u8], u: &mut [u8], v: &mut [u8])
-    requires { ⌜ size .width * size .height * 4 ≤ length (now rgba) ⌝ }
-    requires { ⌜ PlanesFit size (length (now y)) (length (now u)) (length (now v)) ⌝ }
-    ensures y { λ _. ⌜ now (y .exit) ≡ planeOf size (lumaPlane size (now (rgba .entry))) (now (y .entry)) ⌝ }
-    ensures u { λ _. ⌜ now (u .exit) ≡ planeOf size (chromaUPlane size (now (rgba .entry))) (now (u .entry)) ⌝ }
-    ensures v { λ _. ⌜ now (v .exit) ≡ planeOf size (chromaVPlane size (now (rgba .entry))) (now (v .entry)) ⌝ }
-{
-    pad_plane(y, size, 0);
-    pad_plane(u, size, 128);
-    pad_plane(v, size, 128);
-    forward_rows(rgba, size, y, u, v);
-}
-
 // A picture from width x height pixels of four bytes; what follows them, and their alpha, is ignored. Ports `Yuv444Frame::from_rgba`.
 pub fn from_rgba(rgba: &[u8], size: Size, y: &mut [u8], u: &mut [u8], v: &mut [u8]) -> lent::Answer
     ensures { λ r. ⌜ Outcome (answerOf (fromNumberOf size (length (now (rgba .entry))) (length (now (y .entry))) (length (now (u .entry))) (length (now (v .entry)))) 0) (fromBuffersOf (now (rgba .entry)) size (now (y .entry)) (now (u .entry)) (now (v .entry))) r (now (y .exit) ∷ now (u .exit) ∷ now (v .exit) ∷ []) ⌝ }
@@ -226,7 +125,7 @@ pub fn from_rgba(rgba: &[u8], size: Size, y: &mut [u8], u: &mut [u8], v: &mut [u
     if number != 0 {
         return lent::Answer { number, count: 0 };
     }
-    convert_planes(rgba, size, y, u, v);
+    rgba_rows::convert_planes(rgba, size.width, size.height, y, u, v);
     let stride = stride(size);
     let rows = rows(size);
     averages::average_plane(u, stride, rows);

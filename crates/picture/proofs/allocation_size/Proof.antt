@@ -24,7 +24,7 @@ mul-result-2 : tie.Need-mul-result-2
 mul-result-2 c = omega (arith, small c)
 
 returns : tie.Need-returns
-returns c = cc
+returns c = λ i. 3 * (c .before .rows .ensures .0 i * c .stride .ensures .0 i)
 
 pub allocation-size-spec : {M : Type 1} → statement M
 allocation-size-spec =

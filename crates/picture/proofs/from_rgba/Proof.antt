@@ -6,8 +6,9 @@ use native.Mathlib.Omega.{arith}
 use mathlib.Core.Path.{_≡_, sym, _∙_}
 use lib.ListN.{length}
 use borrow.Author.Tests.{ltb-false}
-use Rattle.picture.specs.Sizes.{strideOf, rowsOf, PlanesFit}
-use Rattle.picture.specs.FromRgba.{fromNumberOf, fromBuffersOf}
+use Rattle.averages.specs.Averaged.{averaged}
+use Rattle.picture.specs.Sizes.{strideOf, rowsOf, PlanesFit, planeOf}
+use Rattle.picture.specs.FromRgba.{lumaPlane, chromaUPlane, chromaVPlane, fromNumberOf, fromBuffersOf}
 use Rattle.picture.proofs.Calls.{refused, done}
 use Rattle.picture.proofs.FromOutcome.{from-0-exactly, plane-averaged}
 use Rattle.picture.proofs.Sizes.{planes-fit}
@@ -39,7 +40,9 @@ sides : (c : tie.After-rows) → let z = c .before .before .before .before .befo
 sides c = (c .before .stride .ensures .0, c .rows .ensures .0)
 
 convert-planes-requires : tie.Need-convert-planes-requires
-convert-planes-requires c κs = fits (c .before .before .before)
+convert-planes-requires c κs =
+    let f = fits (c .before .before .before) in
+    record { pixels = f .0; y-fits = f .1 .y-fits; u-fits = f .1 .u-fits; v-fits = f .1 .v-fits }
 
 stride-requires : tie.Need-stride-requires
 stride-requires c κs = search needs
@@ -53,7 +56,7 @@ average-plane-requires c κs =
     let k = r .before .before .before .before .before .before .before .before in
     let e = k .before .before .before .before in
     let s = sides r in
-    rw (s .0, s .1, k .convert-planes .kept .1 .1 .1 .0) (fits e .1 .u-fits, (omega arith, omega arith))
+    rw (s .0, s .1, k .convert-planes .kept .1 .1 .1 .1 .0) (fits e .1 .u-fits, (omega arith, omega arith))
 
 average-plane-requires-2 : tie.Need-average-plane-requires-2
 average-plane-requires-2 c κs =
@@ -61,16 +64,20 @@ average-plane-requires-2 c κs =
     let k = r .before .before .before .before .before .before .before .before in
     let e = k .before .before .before .before in
     let s = sides r in
-    rw (s .0, s .1, k .convert-planes .kept .1 .1 .1 .1 .0) (fits e .1 .v-fits, (omega arith, omega arith))
+    rw (s .0, s .1, k .convert-planes .kept .1 .1 .1 .1 .1 .0) (fits e .1 .v-fits, (omega arith, omega arith))
 
 same-length : tie.Need-same-length
-same-length c = search needs
+same-length c = c .before .before .before .before .before .before .before .before .before .before .before .before .before .before .before .before .convert-planes .kept .1 .1 .1 .0
 
 same-length-2 : tie.Need-same-length-2
-same-length-2 c = search needs
+same-length-2 c =
+    let u = c .before .before .before .before .before .before in
+    u .average-plane .kept .0 ∙ u .before .before .before .before .before .before .before .before .before .before .convert-planes .kept .1 .1 .1 .1 .0
 
 same-length-3 : tie.Need-same-length-3
-same-length-3 c = search needs
+same-length-3 c =
+    let v = c .before .before in
+    v .average-plane2 .kept .0 ∙ v .before .before .before .before .before .before .before .before .before .before .before .before .before .before .convert-planes .kept .1 .1 .1 .1 .1 .0
 
 returns-2 : tie.Need-returns-2
 unfolding fromBuffersOf
@@ -82,10 +89,13 @@ returns-2 c =
     let e = k .before .before .before .before in
     let a = e .before .before .before .before .before .before .args in
     let s = sides r in
-    done (fromNumberOf (a .size) (length (a .rgba .now)) (length (a .y .now)) (length (a .u .now)) (length (a .v .now))) (a .y .now) (a .u .now) (a .v .now) _ _ _ (number-0 e)
+    let z = a .size in
+    let px = a .rgba .now in
+    done (fromNumberOf z (length px) (length (a .y .now)) (length (a .u .now)) (length (a .v .now))) (a .y .now) (a .u .now) (a .v .now)
+    (planeOf z (lumaPlane z px) (a .y .now)) (planeOf z (averaged (chromaUPlane z px)) (a .u .now)) (planeOf z (averaged (chromaVPlane z px)) (a .v .now)) (number-0 e)
     (k .convert-planes .ensures .0)
-    (plane-averaged (a .size) _ (a .u .now) (fits e .1 .u-fits) (s .0) (s .1) (k .convert-planes .ensures .1 .0) (u .average-plane .ensures))
-    (plane-averaged (a .size) _ (a .v .now) (fits e .1 .v-fits) (s .0) (s .1) (k .convert-planes .ensures .1 .1) (v .average-plane2 .ensures))
+    (plane-averaged z (chromaUPlane z px) (a .u .now) (fits e .1 .u-fits) (s .0) (s .1) (k .convert-planes .ensures .1 .0) (u .average-plane .ensures))
+    (plane-averaged z (chromaVPlane z px) (a .v .now) (fits e .1 .v-fits) (s .0) (s .1) (k .convert-planes .ensures .1 .1) (v .average-plane2 .ensures))
 
 pub from-rgba-spec : {M : Type 1} → statement M
 from-rgba-spec =

@@ -54,13 +54,13 @@ fill-plane-requires-3 : tie.Need-fill-plane-requires-3
 fill-plane-requires-3 c κs = fits (c .before .before .before .before .before .before .before .before .before) .2
 
 same-length : tie.Need-same-length
-same-length c = search needs
+same-length c = c .before .before .before .before .before .before .before .before .before .before .fill-plane .kept .0
 
 same-length-2 : tie.Need-same-length-2
-same-length-2 c = search needs
+same-length-2 c = c .before .before .before .before .before .before .fill-plane2 .kept .0
 
 same-length-3 : tie.Need-same-length-3
-same-length-3 c = search needs
+same-length-3 c = c .before .before .fill-plane3 .kept .0
 
 returns-2 : tie.Need-returns-2
 unfolding newBuffersOf

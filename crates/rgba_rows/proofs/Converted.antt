@@ -12,11 +12,10 @@ use Rattle.lent.proofs.Cells.{row-in}
 use Rattle.lent.proofs.Painted.{length-painted}
 use Rattle.lent.proofs.Rows.{rows-none, rows-all}
 use Rattle.colour.specs.Colour.{forwardOf}
-use Rattle.picture.specs.declared.Size.{Size}
-use Rattle.picture.specs.Sizes.{rowsOf}
-use Rattle.picture.specs.FromRgba.{colourAt, inPicture, RowFits}
-use Rattle.picture.proofs.PartRows.{part-more}
-use Rattle.picture.proofs.Padding.{picture-row, picture-facts}
+use Rattle.colour.specs.declared.Yuv.{Yuv}
+use Rattle.rgba_rows.specs.Rows.{colourAt, inside, lineOf, linePainted, RowFits}
+use Rattle.rgba_rows.proofs.PartRows.{part-more}
+use Rattle.rgba_rows.proofs.Padding.{inside-row, inside-facts}
 
 pub part-long : (xs : List ℕ) (a e : ℕ) → a ≤ e → e ≤ length xs → length (take (e - a) (drop a xs)) ≡ e - a
 part-long xs a e h fits = length-take-le (e - a) (drop a xs) (simp length-drop (omega arith))
@@ -46,25 +45,37 @@ row-fits px y u v at line width hp hy hu hv =
     )
     (record { pixels = omega arith; same-u = refl; same-v = refl })
 
+-- the parts that were lent have come back, and hold the converted pixels
+pub line-back : (px xs : List ℕ) (at n a : ℕ) (pick : Yuv → ℕ) {ys : List ℕ}
+    → ys ≡ paint every (λ k. pick (colourAt (take (at + 4 * n - at) (drop at px)) k)) (take (a + n - a) (drop a xs))
+    → take a xs ++ (ys ++ drop (a + n - a) (drop a xs)) ≡ linePainted a n (λ k. pick (colourAt (lineOf px at n) k)) xs
+line-back px xs at n a pick now =
+    let p : at + 4 * n - at ≡ 4 * n = omega arith in
+    let q : a + n - a ≡ n = omega arith in
+    ap (λ (ys : List ℕ). take a xs ++ (ys ++ drop (a + n - a) (drop a xs))) now
+    ∙ (λ i. take a xs ++ (paint every (λ k. pick (colourAt (take (p i) (drop at px)) k)) (take (q i) (drop a xs)) ++ drop (q i) (drop a xs)))
+
 -- the picture's places of the rows below `row` hold s, all else is as it was
-abbrev pub RowsSoFar : ℕ → Size → (ℕ → ℕ → ℕ) → List ℕ → List ℕ → ℕ → Type 0
-RowsSoFar w z s xs ys row = (length ys ≡ length xs) × (ys ≡ painted w (rowsOf z) (upTo (inPicture z) row) s xs)
+abbrev pub RowsSoFar : ℕ → ℕ → ℕ → ℕ → (ℕ → ℕ → ℕ) → List ℕ → List ℕ → ℕ → Type 0
+RowsSoFar w h width height s xs ys row = (length ys ≡ length xs) × (ys ≡ painted w h (upTo (inside width height) row) s xs)
 
-module _ (w : ℕ) (z : Size) (s : ℕ → ℕ → ℕ) (xs : List ℕ) where
-  pub rows-so-far-none : RowsSoFar w z s xs xs 0
-  rows-so-far-none = (refl, rows-none w (rowsOf z) (inPicture z) s xs 0 (λ r c e. omega arith))
+module _ (w h width height : ℕ) (s : ℕ → ℕ → ℕ) (xs : List ℕ) where
+  pub rows-so-far-none : RowsSoFar w h width height s xs xs 0
+  rows-so-far-none = (refl, rows-none w h (inside width height) s xs 0 (λ r c e. omega arith))
 
-  pub rows-so-far-next : {was ys : List ℕ} (row a e : ℕ) (u : ℕ → ℕ) → rowsOf z * w ≤ length xs → z .width ≤ w → row < z .height → a ≡ row * w → e ≡ row * w + z .width
-      → ((j : ℕ) → j < z .width → u j ≡ s row j)
-      → RowsSoFar w z s xs was row → ys ≡ paint every u (take (e - a) (drop a was))
-      → RowsSoFar w z s xs (take a was ++ (ys ++ drop (e - a) (drop a was))) (row + 1)
-  rows-so-far-next row a e u fits narrow h a-is e-is from before now =
+  pub rows-so-far-next : {was ys : List ℕ} (row : ℕ) (u : ℕ → ℕ) → h * w ≤ length xs → width ≤ w → height ≤ h → row < height
+      → ((j : ℕ) → j < width → u j ≡ s row j)
+      → RowsSoFar w h width height s xs was row → ys ≡ linePainted (row * w) width u was
+      → RowsSoFar w h width height s xs ys (row + 1)
+  rows-so-far-next {was} row u fits narrow low lt from before now =
+      let q : width ≡ row * w + width - row * w = omega arith in
       let done =
-      part-more w (rowsOf z) (inPicture z) s xs fits row 0 (z .width) a e u (omega arith) (omega arith) narrow (a-is ∙ sym (add-zero (row * w))) e-is
-      (λ c hc. picture-row z row c h)
+      part-more w h (inside width height) s xs fits row 0 width (row * w) (row * w + width) u (omega arith) (omega arith) narrow (sym (add-zero (row * w))) refl
+      (λ c hc. inside-row width height row c lt)
       (λ j hj. from j (omega arith) ∙ ap (s row) (sym (zero-add j)))
-      (before .1) now refl in
-      (ap length done ∙ length-painted w (rowsOf z) _ s xs, done)
+      (before .1) refl
+      (now ∙ (λ i. take (row * w) was ++ (paint every u (take (q i) (drop (row * w) was)) ++ drop (q i) (drop (row * w) was)))) in
+      (ap length done ∙ length-painted w h _ s xs, done)
 
-  pub rows-so-far-all : {ys : List ℕ} (row : ℕ) → RowsSoFar w z s xs ys row → z .height ≤ row → ys ≡ painted w (rowsOf z) (inPicture z) s xs
-  rows-so-far-all row f end = f .1 ∙ rows-all w (rowsOf z) (inPicture z) s xs row (λ r c hr hc e. omega (arith, picture-facts z r c e))
+  pub rows-so-far-all : {ys : List ℕ} (row : ℕ) → RowsSoFar w h width height s xs ys row → height ≤ row → ys ≡ painted w h (inside width height) s xs
+  rows-so-far-all row f end = f .1 ∙ rows-all w h (inside width height) s xs row (λ r c hr hc e. omega (arith, inside-facts width height r c e))

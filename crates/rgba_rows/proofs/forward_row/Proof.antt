@@ -1,14 +1,14 @@
--- `picture::forward_row` meets its contract. The invariant: in each row the first i samples are the first i pixels' converted.
+-- `rgba_rows::forward_row` meets its contract. The invariant: in each row the first i samples are the first i pixels' converted.
 -- Assumes nothing.
 use borrow.Author.Needs.{needs}
 use Prim.Native.Nat.{_-_}
 use native.Mathlib.Omega.{arith}
 use mathlib.Core.Path.{ap}
 use Rattle.colour.specs.declared.Yuv.{Yuv}
-use Rattle.picture.specs.FromRgba.{colourAt}
-use Rattle.picture.proofs.SoFar.{SoFar, so-far-none, so-far-next, so-far-all}
-use Rattle.picture.proofs.forward_row.Statement.{statement}
-use Rattle.picture.proofs.forward_row.Tie as tie
+use Rattle.rgba_rows.specs.Rows.{colourAt}
+use Rattle.rgba_rows.proofs.SoFar.{SoFar, so-far-none, so-far-next, so-far-all}
+use Rattle.rgba_rows.proofs.forward_row.Statement.{statement}
+use Rattle.rgba_rows.proofs.forward_row.Tie as tie
 
 abbrev Inv-loop : tie.InvT-loop
 Inv-loop pixels y₀ u₀ v₀ n i₀ y u v i =

@@ -1,0 +1,2 @@
+-- The rows of a picture that is made from RGBA pixels.
+pub mod Rows
