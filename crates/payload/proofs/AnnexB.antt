@@ -13,10 +13,10 @@ use Rattle.lent.specs.Outcome.{Outcome, answerOf, lentAfter}
 use Rattle.lent.specs.declared.Answer.{Answer}
 use Rattle.lent.proofs.Refusal.{refusal-exactly, refusal-none}
 use Rattle.lent.proofs.Outcome.{outcome-unique}
-use Rattle.payload.specs.Units.{unitLengthOf, unitEnd, unitAt, unitsFrom}
+use Rattle.units.specs.Units.{unitLengthOf, unitEnd, unitAt, unitsFrom}
 use Rattle.payload.specs.Format.{startCode, summed}
 use Rattle.payload.specs.AnnexB.{countOf, annexed, annexBOf, annexNumber}
-use Rattle.payload.proofs.Units.{unitAt-facts, by-units, units-more}
+use Rattle.units.proofs.Units.{unitAt-facts, by-units, units-more}
 use Rattle.payload.proofs.Made.{summed-more, summed-none}
 use Rattle.payload.proofs.Written.{length-annexed}
 

@@ -8,10 +8,10 @@ use mathlib.Core.List.{List, [], _∷_}
 use mathlib.Core.Logic.{_↔_}
 use lib.Dec.{ltb, eqb}
 use lib.ListN.{length, getD}
-use borrow.Author.Tests.{lt-ltb, ltb-true, eq-eqb, not-true}
+use borrow.Author.Tests.{lt-ltb, le-ltb, ltb-true, eq-eqb, not-true}
 use Rattle.lent.proofs.Bools.{both, both-left, both-right, never-true}
-use Rattle.payload.specs.Units.{unitLengthOf}
-use Rattle.payload.specs.Format.{startCode, startsWithOf, Made, isAvcFormatOf}
+use Rattle.units.specs.Units.{unitLengthOf}
+use Rattle.payload.specs.Format.{startCode, startsWithOf, madeOfUnitsOf, Made, isAvcFormatOf}
 use Rattle.payload.proofs.Made.{made-exactly}
 
 module _ (s : List ℕ) where
@@ -35,6 +35,24 @@ module _ (s : List ℕ) where
             (both (some && not short) _ (both some _ (lt-ltb 0 (length s) (h .0)) (ap not (h .1))) (ap not (h .2)))
             (made-exactly s .1 (h .3)),
       )
+
+  -- the four answers, in the order of the tests
+  module _ (more : 0 < length s) where
+    pub format-short : startsWithOf (0 ∷ 0 ∷ 1 ∷ []) s ≡ true → false ≡ isAvcFormatOf s
+    unfolding isAvcFormatOf
+    format-short e = sym (λ i. lt-ltb 0 (length s) more i && not (e i) && not (startsWithOf startCode s) && madeOfUnitsOf s)
+
+    pub format-long : startsWithOf (0 ∷ 0 ∷ 1 ∷ []) s ≡ false → startsWithOf startCode s ≡ true → false ≡ isAvcFormatOf s
+    unfolding isAvcFormatOf
+    format-long e f = sym (λ i. lt-ltb 0 (length s) more i && not (e i) && not (f i) && madeOfUnitsOf s)
+
+    pub format-units : startsWithOf (0 ∷ 0 ∷ 1 ∷ []) s ≡ false → startsWithOf startCode s ≡ false → madeOfUnitsOf s ≡ isAvcFormatOf s
+    unfolding isAvcFormatOf
+    format-units e f = sym (λ i. lt-ltb 0 (length s) more i && not (e i) && not (f i) && madeOfUnitsOf s)
+
+  pub format-empty : length s ≤ 0 → false ≡ isAvcFormatOf s
+  unfolding isAvcFormatOf
+  format-empty none = sym (λ i. le-ltb 0 (length s) none i && not (startsWithOf (0 ∷ 0 ∷ 1 ∷ []) s) && not (startsWithOf startCode s) && madeOfUnitsOf s)
 
   pub isAvcFormat-unique : (r q : Bool) → r ≡ isAvcFormatOf s → q ≡ isAvcFormatOf s → r ≡ q
   isAvcFormat-unique r q x y = x ∙ sym y

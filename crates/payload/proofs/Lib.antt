@@ -1,5 +1,4 @@
 -- The laws of the words in specs/: start at Format.antt and AnnexB.antt.
-pub mod Units
 pub mod Starts
 pub mod Made
 pub mod Written

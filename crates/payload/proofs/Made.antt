@@ -11,10 +11,10 @@ use lib.Dec.{eqb}
 use lib.ListN.{length, getD, take, drop, length-append, length-drop, take-append-drop, drop-of-length-le}
 use lib.Seq.{drop-cons, drop-drop, getD-drop, drop-at}
 use borrow.Author.Tests.{eq-eqb, eqb-true, eqb-false, lt-ltb}
-use Rattle.payload.specs.Units.{unitLengthOf, unitEnd, unitAt, unitsFrom}
+use Rattle.units.specs.Units.{unitLengthOf, unitEnd, unitAt, unitsFrom}
 use Rattle.payload.specs.Format.{summed, madeFrom, Made}
 use Rattle.payload.specs.Format.Made.{none, more}
-use Rattle.payload.proofs.Units.{Found, unitAt-facts, unitAt-holds, unitAt-none, by-units, units-more, units-none, unit-long}
+use Rattle.units.proofs.Units.{Found, unitAt-facts, unitAt-holds, unitAt-none, by-units, units-more, units-none, unit-long}
 
 -- what is counted does not move: the position, and the units after it
 pub summed-more : {s : List ℕ} {at a e x : ℕ} → Found s at a e x → x + summed (unitsFrom s x) ≡ at + summed (unitsFrom s at)

@@ -4,7 +4,7 @@ use Prim.Native.Nat.{ℕ}
 use mathlib.Core.Path.{_≡_, refl}
 use mathlib.Core.Bool.{true}
 use mathlib.Core.List.{List, [], _∷_}
-use Rattle.payload.specs.Units.{unitLengthOf, unitAt, unitsIn, unitsFrom}
+use Rattle.units.specs.Units.{unitLengthOf, unitAt, unitsIn, unitsFrom}
 use Rattle.payload.specs.Format.{madeFrom, isAvcFormatOf}
 use Rattle.payload.specs.AnnexB.{countOf, annexBOf}
 

@@ -9,10 +9,10 @@ use mathlib.Core.List.{List, [], _∷_, _++_, append-assoc}
 use borrow.Rule.Slice.PartMut.{putMid}
 use lib.ListN.{length, set, take, drop, length-append}
 use lib.Seq.{sets, sets-eq, length-sets, drop-drop}
-use Rattle.payload.specs.Units.{unitAt, unitsFrom}
+use Rattle.units.specs.Units.{unitAt, unitsFrom}
 use Rattle.payload.specs.Format.{startCode, summed}
 use Rattle.payload.specs.AnnexB.{countOf, annexed, annexBOf}
-use Rattle.payload.proofs.Units.{Found, units-more, units-none, unit-long}
+use Rattle.units.proofs.Units.{Found, units-more, units-none, unit-long}
 
 -- ---- a run of stores
 

@@ -10,7 +10,7 @@ use mathlib.Core.List.{List, [], _∷_, _++_}
 use lib.Dec.{ltb}
 use lib.ListN.{length, drop}
 use Rattle.lent.specs.Refusal.{refusal}
-use Rattle.payload.specs.Units.{unitsFrom}
+use Rattle.units.specs.Units.{unitsFrom}
 use Rattle.payload.specs.Format.{startCode, summed}
 
 unfoldable pub countOf : List ℕ → ℕ

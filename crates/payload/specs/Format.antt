@@ -14,7 +14,7 @@ use mathlib.Core.Bool.{Bool, true, false, not, _&&_}
 use mathlib.Core.List.{List, [], _∷_, _++_}
 use lib.Dec.{ltb, eqb}
 use lib.ListN.{length}
-use Rattle.payload.specs.Units.{unitsFrom}
+use Rattle.units.specs.Units.{unitsFrom}
 
 abbrev pub startCode : List ℕ
 startCode = 0 ∷ 0 ∷ 0 ∷ 1 ∷ []

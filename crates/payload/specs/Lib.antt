@@ -1,4 +1,3 @@
 -- The form of an H.264 payload, and its conversion to Annex B.
-pub mod Units
 pub mod Format
 pub mod AnnexB

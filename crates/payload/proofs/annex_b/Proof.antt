@@ -7,10 +7,10 @@ use native.Mathlib.Omega.{arith}
 use mathlib.Core.Path.{_≡_, refl, _∙_}
 use lib.ListN.{length}
 use lib.Seq.{sets}
-use Rattle.payload.specs.Units.{unitsFrom}
+use Rattle.units.specs.Units.{unitsFrom}
 use Rattle.payload.specs.Format.{summed}
 use Rattle.payload.specs.AnnexB.{countOf, annexed}
-use Rattle.payload.proofs.Units.{Found, found, found-none}
+use Rattle.units.proofs.Units.{Found, found, found-none}
 use Rattle.payload.proofs.Made.{summed-more}
 use Rattle.payload.proofs.Written.{put-more, put-none, put-all}
 use Rattle.payload.proofs.annex_b.Statement.{statement}

@@ -5,10 +5,10 @@ use Prim.Native.Nat.{_+_, _-_}
 use native.Mathlib.Omega.{arith}
 use mathlib.Core.Path.{_≡_, _∙_}
 use lib.ListN.{length}
-use Rattle.payload.specs.Units.{unitsFrom}
+use Rattle.units.specs.Units.{unitsFrom}
 use Rattle.payload.specs.Format.{summed}
 use Rattle.payload.specs.AnnexB.{countOf}
-use Rattle.payload.proofs.Units.{Found, found, found-none}
+use Rattle.units.proofs.Units.{Found, found, found-none}
 use Rattle.payload.proofs.Made.{summed-more, summed-none}
 use Rattle.payload.proofs.count.Statement.{statement}
 use Rattle.payload.proofs.count.Tie as tie

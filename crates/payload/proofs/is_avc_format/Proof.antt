@@ -1,17 +1,14 @@
 -- `payload::is_avc_format` meets its contract: each test decides as its part of the definition, in the definition's order.
 -- Assumes nothing.
 use native.Mathlib.Omega.{arith}
-use mathlib.Core.Path.{sym}
-use lib.ListN.{length}
-use borrow.Author.Tests.{le-ltb, lt-ltb}
-use Rattle.payload.specs.Format.{isAvcFormatOf}
+use mathlib.Core.Path.{sym, _∙_}
+use Rattle.payload.proofs.Format.{format-empty, format-short, format-long, format-units}
 use borrow.Author.Needs.{needs}
 use Rattle.payload.proofs.is_avc_format.Statement.{statement}
 use Rattle.payload.proofs.is_avc_format.Tie as tie
 
 returns : tie.Need-returns
-unfolding isAvcFormatOf
-returns c = simp (le-ltb 0 (length (c .before .before .args .«data» .now)) (omega arith))
+returns c = format-empty (c .before .before .args .«data» .now) (omega arith)
 
 slice-aggregate-starts-with : tie.Need-slice-aggregate-starts-with
 slice-aggregate-starts-with c = search needs
@@ -20,10 +17,9 @@ starts-with-requires : tie.Need-starts-with-requires
 starts-with-requires c κs = search needs
 
 returns-2 : tie.Need-returns-2
-unfolding isAvcFormatOf
 returns-2 c =
     let s = c .before .before .before .before .before .args .«data» .now in
-    simp (lt-ltb 0 (length s) (omega arith), sym (c .before .starts-with .ensures), c .if2 .taken)
+    format-short s (omega arith) (sym (c .before .starts-with .ensures) ∙ c .if2 .taken)
 
 slice-aggregate-starts-with-2 : tie.Need-slice-aggregate-starts-with-2
 slice-aggregate-starts-with-2 c = search needs
@@ -32,22 +28,21 @@ starts-with-requires-2 : tie.Need-starts-with-requires-2
 starts-with-requires-2 c κs = search needs
 
 returns-3 : tie.Need-returns-3
-unfolding isAvcFormatOf
 returns-3 c =
     let d = c .before .before .before in
     let s = d .before .before .before .before .before .args .«data» .now in
-    simp (lt-ltb 0 (length s) (omega arith), sym (d .before .starts-with .ensures), d .if2 .left, sym (c .before .starts-with2 .ensures), c .if3 .taken)
+    format-long s (omega arith) (sym (d .before .starts-with .ensures) ∙ d .if2 .left) (sym (c .before .starts-with2 .ensures) ∙ c .if3 .taken)
 
 made-of-units-requires : tie.Need-made-of-units-requires
 made-of-units-requires c κs = search needs
 
 returns-4 : tie.Need-returns-4
-unfolding isAvcFormatOf
 returns-4 c =
     let b = c .before in
     let d = b .before .before .before in
     let s = d .before .before .before .before .before .args .«data» .now in
-    simp (lt-ltb 0 (length s) (omega arith), sym (d .before .starts-with .ensures), d .if2 .left, sym (b .before .starts-with2 .ensures), b .if3 .left, sym (c .made-of-units .ensures))
+    c .made-of-units .ensures
+    ∙ format-units s (omega arith) (sym (d .before .starts-with .ensures) ∙ d .if2 .left) (sym (b .before .starts-with2 .ensures) ∙ b .if3 .left)
 
 pub is-avc-format-spec : {M : Type 1} → statement M
 is-avc-format-spec =

@@ -6,7 +6,7 @@ use native.Mathlib.Omega.{arith}
 use mathlib.Core.Path.{_≡_, refl, _∙_}
 use lib.ListN.{length}
 use Rattle.payload.specs.Format.{madeFrom}
-use Rattle.payload.proofs.Units.{Found, found, found-none}
+use Rattle.units.proofs.Units.{Found, found, found-none}
 use Rattle.payload.proofs.Made.{made-none, made-empty, made-more}
 use Rattle.payload.proofs.made_of_units.Statement.{statement}
 use Rattle.payload.proofs.made_of_units.Tie as tie

@@ -2,51 +2,69 @@
 -- Assumes nothing.
 use Prim.Native.Nat.{_+_, _-_}
 use native.Mathlib.Omega.{arith}
-use lib.ListN.{take, drop, length-drop}
+use lib.ListN.{length, take, drop, length-drop}
 use lib.Seq.{length-take-le}
+use mathlib.Core.Path.{_≡_, sym, _∙_}
+use borrow.Rule.Slice.PartMut.{putMid, same-len-mid}
 use Rattle.payload.proofs.Written.{put-parts}
-use borrow.Author.Needs.{needs}
 use Rattle.payload.proofs.put_unit.Statement.{statement}
 use Rattle.payload.proofs.put_unit.Tie as tie
 
 add-start : tie.Need-add-start
-add-start c = search needs
+add-start c = omega arith
 
 sub-put-start-code : tie.Need-sub-put-start-code
-sub-put-start-code c = search needs
+sub-put-start-code c = omega arith
 
 part-put-start-code-start : tie.Need-part-put-start-code-start
-part-put-start-code-start c = search needs
+part-put-start-code-start c = omega arith
 
 part-put-start-code-end : tie.Need-part-put-start-code-end
-part-put-start-code-end c = search needs
+part-put-start-code-end c = omega arith
 
 put-start-code-requires : tie.Need-put-start-code-requires
-put-start-code-requires c κs = search needs
+put-start-code-requires c κs =
+    let a = c .before .before .before .args in
+    let n : a .at + 4 - a .at ≡ 4 = omega arith in
+    length-take-le (a .at + 4 - a .at) (drop (a .at) (a .out .now)) (simp length-drop (omega arith)) ∙ n
+
+-- the output is as long as it was, with the start code in it
+as-long : (c : tie.After-put-start-code) → let a = c .before .before .before .before .args in length (putMid (a .at) (a .at + 4 - a .at) (a .out .now) (c .put-start-code .last .0)) ≡ length (a .out .now)
+as-long c = let a = c .before .before .before .before .args in same-len-mid (a .at) (a .at + 4 - a .at) (a .out .now) (c .put-start-code .last .0) (c .put-start-code .kept .0)
 
 sub-copy : tie.Need-sub-copy
-sub-copy c = search needs
+sub-copy c = omega arith
 
 part-copy-start : tie.Need-part-copy-start
-part-copy-start c = search needs
+part-copy-start c = omega arith
 
 part-copy-end : tie.Need-part-copy-end
-part-copy-end c = search needs
+part-copy-end c = omega (arith, as-long (c .before .before))
 
 sub-copy-2 : tie.Need-sub-copy-2
-sub-copy-2 c = search needs
+sub-copy-2 c = omega arith
 
 part-copy-start-2 : tie.Need-part-copy-start-2
-part-copy-start-2 c = search needs
+part-copy-start-2 c = omega arith
 
 part-copy-end-2 : tie.Need-part-copy-end-2
-part-copy-end-2 c = search needs
+part-copy-end-2 c = omega arith
 
 copy-requires : tie.Need-copy-requires
-copy-requires c κs = search needs
+copy-requires c κs =
+    let d = c .before .before .before .before in
+    let a = d .before .before .before .before .args in
+    let l = as-long d in
+    length-take-le (a .end - (a .at + 4)) (drop (a .at + 4) (putMid (a .at) (a .at + 4 - a .at) (a .out .now) (d .put-start-code .last .0))) (simp length-drop (omega arith))
+    ∙ sym (length-take-le (a .end - (a .at + 4)) (drop (a .at + 4) (a .s .now)) (simp length-drop (omega arith)))
 
 same-length : tie.Need-same-length
-same-length c = search needs
+same-length c =
+    let k = c .before .before in
+    let d = k .before .before .before .before .before in
+    let a = d .before .before .before .before .args in
+    same-len-mid (a .at + 4) (a .end - (a .at + 4)) (putMid (a .at) (a .at + 4 - a .at) (a .out .now) (d .put-start-code .last .0)) (k .copy .last .0) (k .copy .kept .0)
+    ∙ as-long d
 
 returns : tie.Need-returns
 returns c =

@@ -11,10 +11,10 @@ use lib.ListN.{length, take, drop, length-drop}
 use lib.Seq.{length-take-le}
 use borrow.Author.Tests.{le-leb, leb-true}
 use Rattle.lent.proofs.Bools.{both, both-right, never-true, cond-true, cond-false}
-use Rattle.payload.specs.Units.{unitLengthOf, unitEnd, unitAt, Values, aUnit, noUnit, valuesOf, stepOf, unitsIn, unitsFrom}
-use Rattle.payload.specs.declared.Cursor.{Cursor}
-use Rattle.payload.specs.declared.Step.{Step}
-use Rattle.payload.specs.declared.Step.the-variants.{Whole, Stop}
+use Rattle.units.specs.Units.{unitLengthOf, unitEnd, unitAt, Values, aUnit, noUnit, valuesOf, stepOf, unitsIn, unitsFrom}
+use Rattle.units.specs.declared.Cursor.{Cursor}
+use Rattle.units.specs.declared.Step.{Step}
+use Rattle.units.specs.declared.Step.the-variants.{Whole, Stop}
 
 -- a whole unit stands at `at`: its bytes are those from a to e, and x is the position past it
 pub record Found (s : List ℕ) (at a e x : ℕ) : Type 0 where

@@ -12,8 +12,8 @@ use mathlib.Core.Bool.{Bool, true, false, cond, _&&_}
 use mathlib.Core.List.{List, [], _∷_}
 use lib.Dec.{leb}
 use lib.ListN.{length, getD, take, drop}
-use Rattle.payload.specs.declared.Step.{Step}
-use Rattle.payload.specs.declared.Step.the-variants.{Whole, Stop}
+use Rattle.units.specs.declared.Step.{Step}
+use Rattle.units.specs.declared.Step.the-variants.{Whole, Stop}
 
 unfoldable pub unitLengthOf : List ℕ → ℕ → ℕ
 unitLengthOf s at = getD s at 0 * 16777216 + getD s (at + 1) 0 * 65536 + getD s (at + 2) 0 * 256 + getD s (at + 3) 0

@@ -3,9 +3,9 @@
 use borrow.Author.Needs.{needs}
 use Prim.Native.Nat.{_+_}
 use native.Mathlib.Omega.{arith}
-use Rattle.payload.proofs.Units.{step-at, step-none}
-use Rattle.payload.proofs.Cursor.step.Statement.{statement}
-use Rattle.payload.proofs.Cursor.step.Tie as tie
+use Rattle.units.proofs.Units.{step-at, step-none}
+use Rattle.units.proofs.Cursor.step.Statement.{statement}
+use Rattle.units.proofs.Cursor.step.Tie as tie
 
 returns : tie.Need-returns
 returns c = step-none (c .before .before .args .s .now) (c .before .before .args .self .at) (omega arith)

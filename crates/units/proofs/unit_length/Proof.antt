@@ -1,10 +1,10 @@
--- `payload::unit_length` meets its contract: each byte is below 256, so no product or sum wraps, and the sum is the definition's.
+-- `units::unit_length` meets its contract: each byte is below 256, so no product or sum wraps, and the sum is the definition's.
 -- Assumes nothing.
 use borrow.Author.Needs.{needs}
 use native.Mathlib.Omega.{arith}
-use Rattle.payload.specs.Units.{unitLengthOf}
-use Rattle.payload.proofs.unit_length.Statement.{statement}
-use Rattle.payload.proofs.unit_length.Tie as tie
+use Rattle.units.specs.Units.{unitLengthOf}
+use Rattle.units.proofs.unit_length.Statement.{statement}
+use Rattle.units.proofs.unit_length.Tie as tie
 
 shared-slice-read-wide : tie.Need-shared-slice-read-wide
 shared-slice-read-wide c = search needs

@@ -1,0 +1,2 @@
+-- The laws of units.
+pub mod Units

@@ -1,0 +1,2 @@
+-- The units of an H.264 payload.
+pub mod Units
