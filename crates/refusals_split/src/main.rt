@@ -3,6 +3,7 @@
 // unchanged, or the Adler-32 of what the call wrote. All bytes of the picture's Y are 197, of U 198 and of V 199, and all of the outputs
 // 201 before.
 // The file `stdout` beside src/ was written by hand from the document.
+use layout::Layout;
 use picture::Size;
 use split::PlaneLengths;
 use split::Views;
@@ -12,62 +13,9 @@ fn three(y: usize, u: usize, v: usize) -> PlaneLengths {
     PlaneLengths { y, u, v }
 }
 
-// The call, in layout V1 or in V2.
+// The call over the first so many bytes of each output.
 fn call(
-    v1: bool,
-    size: Size,
-    y: &[u8],
-    u: &[u8],
-    v: &[u8],
-    main_y: &mut [u8],
-    main_u: &mut [u8],
-    main_v: &mut [u8],
-    aux_y: &mut [u8],
-    aux_u: &mut [u8],
-    aux_v: &mut [u8],
-) -> Views {
-    if v1 {
-        return split::split_v1(size, y, u, v, main_y, main_u, main_v, aux_y, aux_u, aux_v);
-    }
-    split::split_v2(size, y, u, v, main_y, main_u, main_v, aux_y, aux_u, aux_v)
-}
-
-// The call over the first so many bytes of the auxiliary view's outputs.
-fn auxiliary(
-    v1: bool,
-    size: Size,
-    y: &[u8],
-    u: &[u8],
-    v: &[u8],
-    main_y: &mut [u8],
-    main_u: &mut [u8],
-    main_v: &mut [u8],
-    aux_y: &mut [u8],
-    aux_u: &mut [u8],
-    aux_v: &mut [u8],
-    n: PlaneLengths,
-) -> Views {
-    let y_end = lent::least(n.y, aux_y.len());
-    let u_end = lent::least(n.u, aux_u.len());
-    let v_end = lent::least(n.v, aux_v.len());
-    call(
-        v1,
-        size,
-        y,
-        u,
-        v,
-        main_y,
-        main_u,
-        main_v,
-        &mut aux_y[0..y_end],
-        &mut aux_u[0..u_end],
-        &mut aux_v[0..v_end],
-    )
-}
-
-// The same over the first so many bytes of the main view's outputs.
-fn both(
-    v1: bool,
+    layout: Layout,
     size: Size,
     y: &[u8],
     u: &[u8],
@@ -81,30 +29,31 @@ fn both(
     aux_v: &mut [u8],
     n: PlaneLengths,
 ) -> Views {
-    let y_end = lent::least(m.y, main_y.len());
-    let u_end = lent::least(m.u, main_u.len());
-    let v_end = lent::least(m.v, main_v.len());
-    auxiliary(
-        v1,
+    let main_y_end = lent::least(m.y, main_y.len());
+    let main_u_end = lent::least(m.u, main_u.len());
+    let main_v_end = lent::least(m.v, main_v.len());
+    let aux_y_end = lent::least(n.y, aux_y.len());
+    let aux_u_end = lent::least(n.u, aux_u.len());
+    let aux_v_end = lent::least(n.v, aux_v.len());
+    split::split(
+        layout,
         size,
         y,
         u,
         v,
-        &mut main_y[0..y_end],
-        &mut main_u[0..u_end],
-        &mut main_v[0..v_end],
-        aux_y,
-        aux_u,
-        aux_v,
-        n,
+        &mut main_y[0..main_y_end],
+        &mut main_u[0..main_u_end],
+        &mut main_v[0..main_v_end],
+        &mut aux_y[0..aux_y_end],
+        &mut aux_u[0..aux_u_end],
+        &mut aux_v[0..aux_v_end],
     )
 }
 
-fn name(v1: bool) {
-    if v1 {
-        say::text(b"split v1: ");
-    } else {
-        say::text(b"split v2: ");
+fn name(layout: Layout) {
+    match layout {
+        Layout::V1 => say::text(b"split v1: "),
+        Layout::V2 => say::text(b"split v2: "),
     }
 }
 
@@ -130,7 +79,7 @@ fn view(name: &[u8], y: &[u8], u: &[u8], v: &[u8]) {
 
 // Six outputs of so many bytes.
 fn outputs(
-    v1: bool,
+    layout: Layout,
     case: &[u8],
     size: Size,
     y: &[u8],
@@ -145,8 +94,8 @@ fn outputs(
     let mut aux_y = [201u8; 257];
     let mut aux_u = [201u8; 65];
     let mut aux_v = [201u8; 65];
-    let a = both(
-        v1,
+    let a = call(
+        layout,
         size,
         y,
         u,
@@ -160,7 +109,7 @@ fn outputs(
         &mut aux_v,
         n,
     );
-    name(v1);
+    name(layout);
     answer(case, a);
     view(b", main", &main_y, &main_u, &main_v);
     view(b", auxiliary", &aux_y, &aux_u, &aux_v);
@@ -168,7 +117,7 @@ fn outputs(
 
 // The same over the first so many bytes of the picture's planes.
 fn pictured(
-    v1: bool,
+    layout: Layout,
     case: &[u8],
     size: Size,
     y: &[u8],
@@ -182,7 +131,7 @@ fn pictured(
     let u_end = lent::least(p.u, u.len());
     let v_end = lent::least(p.v, v.len());
     outputs(
-        v1,
+        layout,
         case,
         size,
         &y[0..y_end],
@@ -194,11 +143,18 @@ fn pictured(
 }
 
 // One line: a picture and the lengths of its planes and of the outputs.
-fn line(v1: bool, case: &[u8], size: Size, p: PlaneLengths, m: PlaneLengths, n: PlaneLengths) {
+fn line(
+    layout: Layout,
+    case: &[u8],
+    size: Size,
+    p: PlaneLengths,
+    m: PlaneLengths,
+    n: PlaneLengths,
+) {
     let y = [197u8; 257];
     let u = [198u8; 257];
     let v = [199u8; 257];
-    pictured(v1, case, size, &y, &u, &v, p, m, n);
+    pictured(layout, case, size, &y, &u, &v, p, m, n);
     say::read(b", y ", &y, 197);
     say::read(b", u ", &u, 198);
     say::read(b", v ", &v, 199);
@@ -206,76 +162,91 @@ fn line(v1: bool, case: &[u8], size: Size, p: PlaneLengths, m: PlaneLengths, n: 
 }
 
 // The picture is 5 x 5: planes of 16 x 16, and views of 16 x 16 and 8 x 8.
-fn five(v1: bool, case: &[u8], p: PlaneLengths, m: PlaneLengths, n: PlaneLengths) {
+fn five(layout: Layout, case: &[u8], p: PlaneLengths, m: PlaneLengths, n: PlaneLengths) {
     let size = Size {
         width: 5,
         height: 5,
     };
-    line(v1, case, size, p, m, n);
+    line(layout, case, size, p, m, n);
 }
 
 // The lengths of the picture's planes.
-fn planes(v1: bool, case: &[u8], p: PlaneLengths) {
-    five(v1, case, p, three(256, 64, 64), three(256, 64, 64));
+fn planes(layout: Layout, case: &[u8], p: PlaneLengths) {
+    five(layout, case, p, three(256, 64, 64), three(256, 64, 64));
 }
 
 // The lengths of the outputs.
-fn views(v1: bool, case: &[u8], m: PlaneLengths, n: PlaneLengths) {
-    five(v1, case, three(256, 256, 256), m, n);
+fn views(layout: Layout, case: &[u8], m: PlaneLengths, n: PlaneLengths) {
+    five(layout, case, three(256, 256, 256), m, n);
 }
 
-fn edges(v1: bool) {
-    planes(v1, b"exact", three(256, 256, 256));
+fn edges(layout: Layout) {
+    planes(layout, b"exact", three(256, 256, 256));
     five(
-        v1,
+        layout,
         b"one over",
         three(257, 257, 257),
         three(257, 65, 65),
         three(257, 65, 65),
     );
-    planes(v1, b"y short", three(255, 256, 256));
-    planes(v1, b"u short", three(256, 255, 256));
-    planes(v1, b"v short", three(256, 256, 255));
-    views(v1, b"main y short", three(255, 64, 64), three(256, 64, 64));
-    views(v1, b"main u short", three(256, 63, 64), three(256, 64, 64));
-    views(v1, b"main v short", three(256, 64, 63), three(256, 64, 64));
+    planes(layout, b"y short", three(255, 256, 256));
+    planes(layout, b"u short", three(256, 255, 256));
+    planes(layout, b"v short", three(256, 256, 255));
     views(
-        v1,
+        layout,
+        b"main y short",
+        three(255, 64, 64),
+        three(256, 64, 64),
+    );
+    views(
+        layout,
+        b"main u short",
+        three(256, 63, 64),
+        three(256, 64, 64),
+    );
+    views(
+        layout,
+        b"main v short",
+        three(256, 64, 63),
+        three(256, 64, 64),
+    );
+    views(
+        layout,
         b"auxiliary y short",
         three(256, 64, 64),
         three(255, 64, 64),
     );
     views(
-        v1,
+        layout,
         b"auxiliary u short",
         three(256, 64, 64),
         three(256, 63, 64),
     );
     views(
-        v1,
+        layout,
         b"auxiliary v short",
         three(256, 64, 64),
         three(256, 64, 63),
     );
-    views(v1, b"outputs empty", three(0, 0, 0), three(0, 0, 0));
+    views(layout, b"outputs empty", three(0, 0, 0), three(0, 0, 0));
 }
 
 // A picture of this size with every buffer empty.
-fn empty(v1: bool, case: &[u8], width: u16, height: u16) {
+fn empty(layout: Layout, case: &[u8], width: u16, height: u16) {
     let none = three(0, 0, 0);
-    line(v1, case, Size { width, height }, none, none, none);
+    line(layout, case, Size { width, height }, none, none, none);
 }
 
-fn sizes(v1: bool) {
-    empty(v1, b"0 x 0", 0, 0);
-    empty(v1, b"0 x 5", 0, 5);
-    empty(v1, b"5 x 0", 5, 0);
-    empty(v1, b"65520 x 0", 65520, 0);
-    empty(v1, b"65521 x 0", 65521, 0);
-    empty(v1, b"65535 x 0", 65535, 0);
-    empty(v1, b"0 x 65520", 0, 65520);
-    empty(v1, b"0 x 65521", 0, 65521);
-    empty(v1, b"0 x 65535", 0, 65535);
+fn sizes(layout: Layout) {
+    empty(layout, b"0 x 0", 0, 0);
+    empty(layout, b"0 x 5", 0, 5);
+    empty(layout, b"5 x 0", 5, 0);
+    empty(layout, b"65520 x 0", 65520, 0);
+    empty(layout, b"65521 x 0", 65521, 0);
+    empty(layout, b"65535 x 0", 65535, 0);
+    empty(layout, b"0 x 65520", 0, 65520);
+    empty(layout, b"0 x 65521", 0, 65521);
+    empty(layout, b"0 x 65535", 0, 65535);
 }
 
 // A plane of 65,536 x 16.
@@ -284,14 +255,14 @@ fn large_plane() -> [u8; 1048576] {
 }
 
 // A picture of 65,521 x 1, whose planes lie in one array, with outputs for 16 x 16.
-fn large(v1: bool, case: &[u8]) {
+fn large(layout: Layout, case: &[u8]) {
     let plane = large_plane();
     let size = Size {
         width: 65521,
         height: 1,
     };
     outputs(
-        v1,
+        layout,
         case,
         size,
         &plane,
@@ -304,25 +275,25 @@ fn large(v1: bool, case: &[u8]) {
     say::text(b"\n");
 }
 
-fn together(v1: bool) {
-    empty(v1, b"1 and 5", 65521, 5);
+fn together(layout: Layout) {
+    empty(layout, b"1 and 5", 65521, 5);
     five(
-        v1,
+        layout,
         b"1 and 6",
         three(255, 256, 256),
         three(256, 64, 64),
         three(256, 64, 63),
     );
-    large(v1, b"5 and 6");
+    large(layout, b"5 and 6");
 }
 
-fn lines(v1: bool) {
-    edges(v1);
-    sizes(v1);
-    together(v1);
+fn lines(layout: Layout) {
+    edges(layout);
+    sizes(layout);
+    together(layout);
 }
 
 fn main() {
-    lines(true);
-    lines(false);
+    lines(Layout::V1);
+    lines(Layout::V2);
 }
