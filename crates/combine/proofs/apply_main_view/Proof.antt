@@ -49,13 +49,13 @@ chroma-rects-requires-2 c κs =
     record { plane-fits = f .planes .v-fits; view-fits = f .view .v-long; wide = f .view .chroma-wide }
 
 same-length : tie.Need-same-length
-same-length c = search needs
+same-length c = c .before .before .before .before .before .before .before .before .before .before .luma-rects .kept .0
 
 same-length-2 : tie.Need-same-length-2
-same-length-2 c = search needs
+same-length-2 c = c .before .before .before .before .before .before .chroma-rects .kept .0
 
 same-length-3 : tie.Need-same-length-3
-same-length-3 c = search needs
+same-length-3 c = c .before .before .chroma-rects2 .kept .0
 
 returns-2 : tie.Need-returns-2
 returns-2 c =

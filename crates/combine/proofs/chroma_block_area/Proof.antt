@@ -17,7 +17,12 @@ edge-up-requires-2 : tie.Need-edge-up-requires-2
 edge-up-requires-2 c κs = search needs
 
 returns : tie.Need-returns
-returns c = cc
+returns c = λ i. record {
+  left = c .before .before .before .edge-down .ensures i;
+  top = c .before .before .edge-down2 .ensures i;
+  right = c .before .edge-up .ensures i;
+  bottom = c .edge-up2 .ensures i;
+}
 
 pub chroma-block-area-spec : {M : Type 1} → statement M
 chroma-block-area-spec =

@@ -59,7 +59,7 @@ chroma-rows-requires c κs =
     chroma-asks (s .args .size) (s .args .w) (q .left) (q .top) (q .right) (q .bottom) _ _ _ _ _ _ (c .chroma .ensures) (s .pre) (ap (λ (x : Area). x .left) (found l)) (end l) (below l) (c .before .before .if1 .taken)
 
 same-length : tie.Need-same-length
-same-length c = search needs
+same-length c = c .before .before .chroma-rows .kept .0
 
 returns : tie.Need-returns
 returns c =

@@ -46,7 +46,7 @@ luma-rows-requires c κs =
     luma-asks (s .args .size) (s .args .w) (q .left) (q .top) (q .right) (q .bottom) _ _ _ _ _ _ (c .luma .ensures) (s .pre) (e .luma-right .ensures) (l .least .ensures) (c .before .before .before .if1 .taken)
 
 same-length : tie.Need-same-length
-same-length c = search needs
+same-length c = c .before .before .luma-rows .kept .0
 
 returns : tie.Need-returns
 unfolding mainLuma

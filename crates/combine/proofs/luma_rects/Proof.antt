@@ -49,7 +49,7 @@ loop-again c =
     )
 
 same-length : tie.Need-same-length Inv-loop μ-loop
-same-length c = omega arith
+same-length c = c .before .loop .inv .2
 
 returns : tie.Need-returns Inv-loop μ-loop
 returns c = let l = c .before in rects-all _ _ (mainLuma _ _) _ _ _ (l .loop .i) (omega arith) (l .loop .inv .3)

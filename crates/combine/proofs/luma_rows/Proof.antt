@@ -43,7 +43,7 @@ loop-again c =
     )
 
 same-length : tie.Need-same-length Inv-loop μ-loop
-same-length c = omega arith
+same-length c = c .before .before .loop .inv .1
 
 returns : tie.Need-returns Inv-loop μ-loop
 returns c = let l = c .before .before in box-rows-all _ _ _ _ _ _ _ _ _ (l .loop .row) (c .if1 .left) (l .loop .inv .2)
