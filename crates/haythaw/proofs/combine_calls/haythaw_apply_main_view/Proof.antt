@@ -1,25 +1,27 @@
 -- `haythaw_apply_main_view` meets its contract: it hands all over, and of the answer it hands back the number.
 -- Assumes nothing.
-use borrow.Author.Needs.{needs}
 use Rattle.haythaw.proofs.Numbers.{number-alone}
 use Rattle.haythaw.proofs.combine_calls.haythaw_apply_main_view.Statement.{statement}
 use Rattle.haythaw.proofs.combine_calls.haythaw_apply_main_view.Tie as tie
 
+-- the call, seen from the return
+abbrev call : tie.After-slice-known6 → tie.After-apply-main-view
+call c = c .before .before .before .before .before .before
+
 apply-main-view-requires : tie.Need-apply-main-view-requires
-apply-main-view-requires c κs = search needs
+apply-main-view-requires c κs = tt
 
 same-length : tie.Need-same-length
-same-length c = c .before .before .before .before .before .before .apply-main-view .kept .1 .0
+same-length c = call c .apply-main-view .kept .1 .0
 
 same-length-2 : tie.Need-same-length-2
-same-length-2 c = c .before .before .before .before .before .before .apply-main-view .kept .1 .1 .0
+same-length-2 c = call c .apply-main-view .kept .1 .1 .0
 
 same-length-3 : tie.Need-same-length-3
-same-length-3 c = c .before .before .before .before .before .before .apply-main-view .kept .1 .1 .1 .0
+same-length-3 c = call c .apply-main-view .kept .1 .1 .1 .0
 
 returns : tie.Need-returns
-returns c = number-alone (c .before .before .before .before .before .before .apply-main-view .ensures)
+returns c = number-alone (call c .apply-main-view .ensures)
 
 pub haythaw-apply-main-view-spec : {M : Type 1} → statement M
-haythaw-apply-main-view-spec =
-    tie.close (tie.spec apply-main-view-requires same-length same-length-2 same-length-3 returns)
+haythaw-apply-main-view-spec = tie.close (tie.spec apply-main-view-requires same-length same-length-2 same-length-3 returns)

@@ -1,25 +1,27 @@
 -- `haythaw_from_rgba` meets its contract: it hands all over, and of the answer it hands back the number.
 -- Assumes nothing.
-use borrow.Author.Needs.{needs}
 use Rattle.haythaw.proofs.Numbers.{number-alone}
 use Rattle.haythaw.proofs.picture_calls.haythaw_from_rgba.Statement.{statement}
 use Rattle.haythaw.proofs.picture_calls.haythaw_from_rgba.Tie as tie
 
+-- the call, seen from the return
+abbrev call : tie.After-slice-known6 → tie.After-from-rgba
+call c = c .before .before .before .before .before .before
+
 from-rgba-requires : tie.Need-from-rgba-requires
-from-rgba-requires c κs = search needs
+from-rgba-requires c κs = tt
 
 same-length : tie.Need-same-length
-same-length c = c .before .before .before .before .before .before .from-rgba .kept .1 .1 .0
+same-length c = call c .from-rgba .kept .1 .1 .0
 
 same-length-2 : tie.Need-same-length-2
-same-length-2 c = c .before .before .before .before .before .before .from-rgba .kept .1 .1 .1 .0
+same-length-2 c = call c .from-rgba .kept .1 .1 .1 .0
 
 same-length-3 : tie.Need-same-length-3
-same-length-3 c = c .before .before .before .before .before .before .from-rgba .kept .1 .1 .1 .1 .0
+same-length-3 c = call c .from-rgba .kept .1 .1 .1 .1 .0
 
 returns : tie.Need-returns
-returns c = number-alone (c .before .before .before .before .before .before .from-rgba .ensures)
+returns c = number-alone (call c .from-rgba .ensures)
 
 pub haythaw-from-rgba-spec : {M : Type 1} → statement M
-haythaw-from-rgba-spec =
-    tie.close (tie.spec from-rgba-requires same-length same-length-2 same-length-3 returns)
+haythaw-from-rgba-spec = tie.close (tie.spec from-rgba-requires same-length same-length-2 same-length-3 returns)
