@@ -1,4 +1,5 @@
 -- Each channel is the document's formula, in natural numbers: `Formulas` says so of bytes. Assumes nothing.
+use mathlib.Core.Path.{sym, _∙_}
 use borrow.Author.Needs.{needs}
 use Rattle.colour.specs.Colour.{forwardOf}
 use Rattle.colour.proofs.Formulas.{luma-is, u-is, v-is}
@@ -17,11 +18,15 @@ chroma-v-requires c κs = search needs
 returns : tie.Need-returns
 unfolding forwardOf
 returns c =
-    let f = c .before .before .before .fits in
-    let r = f .r .fits in
-    let g = f .g .fits in
-    let b = f .b .fits in
-    cc (luma-is _ _ _ r g b, u-is _ _ _ r g b, v-is _ _ _ r g b)
+    let s = c .before .before .before in
+    let a = s .args in
+    let r = s .fits .r .fits in
+    let g = s .fits .g .fits in
+    let b = s .fits .b .fits in
+    let y-is = c .before .before .luma .ensures ∙ sym (luma-is (a .r) (a .g) (a .b) r g b) in
+    let cb-is = c .before .chroma-u .ensures ∙ sym (u-is (a .r) (a .g) (a .b) r g b) in
+    let cr-is = c .chroma-v .ensures ∙ sym (v-is (a .r) (a .g) (a .b) r g b) in
+    λ i. record { y = y-is i; u = cb-is i; v = cr-is i }
 
 pub forward-spec : {M : Type 1} → statement M
 forward-spec = tie.close (tie.spec luma-requires chroma-u-requires chroma-v-requires returns)

@@ -1,4 +1,6 @@
 -- Each channel is the document's formula, in natural numbers: `Formulas` says so. Assumes nothing.
+use mathlib.Core.Path.{sym, _∙_}
+use mathlib.Core.List.{[], _∷_}
 use borrow.Author.Needs.{needs}
 use Rattle.colour.specs.Colour.{reverseOf}
 use Rattle.colour.proofs.Formulas.{red-is, green-is, blue-is}
@@ -18,7 +20,10 @@ returns : tie.Need-returns
 unfolding reverseOf
 returns c =
     let a = c .before .before .before .args in
-    cc (red-is (a .y) (a .v), green-is (a .y) (a .u) (a .v), blue-is (a .y) (a .u))
+    let r = c .before .before .red .ensures ∙ sym (red-is (a .y) (a .v)) in
+    let g = c .before .green .ensures ∙ sym (green-is (a .y) (a .u) (a .v)) in
+    let b = c .blue .ensures ∙ sym (blue-is (a .y) (a .u)) in
+    λ i. r i ∷ g i ∷ b i ∷ 255 ∷ []
 
 pub reverse-spec : {M : Type 1} → statement M
 reverse-spec = tie.close (tie.spec red-requires green-requires blue-requires returns)
