@@ -19,13 +19,13 @@ use Rattle.lent.specs.Outcome.{lentAfter}
 use Rattle.lent.specs.Refusal.{refusal}
 use Rattle.colour.specs.declared.Yuv.{Yuv}
 use Rattle.averages.specs.Averaged.{averaged}
-use Rattle.rgba_rows.specs.Rows.{pixelAt, inside}
+use Rattle.rgba_rows.specs.Rows.{inputAt, inside}
 use Rattle.picture.specs.declared.Size.{Size}
 use Rattle.picture.specs.Sizes.{planesShort, planeOf}
 use Rattle.picture.specs.New.{freshLuma, freshChroma}
 
 abbrev pub convertedOf : List ℕ → Size → ℕ → ℕ → Yuv
-convertedOf px z = pixelAt px (z .width)
+convertedOf px z = inputAt px (z .width)
 
 abbrev pub inPicture : Size → ℕ → ℕ → Bool
 inPicture z = inside (z .width) (z .height)

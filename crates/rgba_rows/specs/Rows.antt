@@ -2,7 +2,7 @@
 -- `height` rows; its planes have both rounded up to 16.
 --
 --   colourAt px k                  Y, U and V of pixel k of the bytes px: four bytes a pixel, red, green, blue and an alpha that is ignored
---   pixelAt px width r c           the same of the input's pixel at row r, column c
+--   inputAt px width r c           the same of the input's pixel at row r, column c
 --   inside width height r c        row r, column c is within the width and height; the rest of a plane is padding
 --   paddingFromOf width height r   the column from which row r is padding
 --   lineOf px at n                 the n pixels from byte `at` on
@@ -25,8 +25,8 @@ unfoldable pub colourAt : List ℕ → ℕ → Yuv
 colourAt px k = forwardOf (getD px (4 * k) 0) (getD px (4 * k + 1) 0) (getD px (4 * k + 2) 0)
 
 -- "convert each pixel": they are packed, row after row of `width` pixels
-abbrev pub pixelAt : List ℕ → ℕ → ℕ → ℕ → Yuv
-pixelAt px width r c = colourAt px (r * width + c)
+abbrev pub inputAt : List ℕ → ℕ → ℕ → ℕ → Yuv
+inputAt px width r c = colourAt px (r * width + c)
 
 unfoldable pub inside : ℕ → ℕ → ℕ → ℕ → Bool
 inside width height r c = ltb r height && ltb c width

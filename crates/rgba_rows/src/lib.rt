@@ -10,7 +10,7 @@ ghost use Rattle.lent.specs.Paint.{paint, painted, every, whole};
 ghost use Rattle.lent.specs.Sizes.{roundUp};
 ghost use Rattle.rgba_rows.specs.Rows.{
   colourAt,
-  pixelAt,
+  inputAt,
   inside,
   paddingFromOf,
   lineOf,
@@ -94,9 +94,9 @@ fn forward_line(
 // The picture's own rows and columns of the three planes hold the converted pixels.
 fn forward_rows(rgba: &[u8], width: u16, height: u16, y: &mut [u8], u: &mut [u8], v: &mut [u8])
     requires { ⌜ RoomFor width height (length (now rgba)) (length (now y)) (length (now u)) (length (now v)) ⌝ }
-    ensures y { λ _. ⌜ now (y .exit) ≡ painted (roundUp 16 width) (roundUp 16 height) (inside width height) (λ r c. pixelAt (now (rgba .entry)) width r c .y) (now (y .entry)) ⌝ }
-    ensures u { λ _. ⌜ now (u .exit) ≡ painted (roundUp 16 width) (roundUp 16 height) (inside width height) (λ r c. pixelAt (now (rgba .entry)) width r c .u) (now (u .entry)) ⌝ }
-    ensures v { λ _. ⌜ now (v .exit) ≡ painted (roundUp 16 width) (roundUp 16 height) (inside width height) (λ r c. pixelAt (now (rgba .entry)) width r c .v) (now (v .entry)) ⌝ }
+    ensures y { λ _. ⌜ now (y .exit) ≡ painted (roundUp 16 width) (roundUp 16 height) (inside width height) (λ r c. inputAt (now (rgba .entry)) width r c .y) (now (y .entry)) ⌝ }
+    ensures u { λ _. ⌜ now (u .exit) ≡ painted (roundUp 16 width) (roundUp 16 height) (inside width height) (λ r c. inputAt (now (rgba .entry)) width r c .u) (now (u .entry)) ⌝ }
+    ensures v { λ _. ⌜ now (v .exit) ≡ painted (roundUp 16 width) (roundUp 16 height) (inside width height) (λ r c. inputAt (now (rgba .entry)) width r c .v) (now (v .entry)) ⌝ }
 {
     let stride = lent::round_up_16(width);
     let n = width as usize;
@@ -119,9 +119,9 @@ pub fn convert_planes(
     v: &mut [u8],
 )
     requires { ⌜ RoomFor width height (length (now rgba)) (length (now y)) (length (now u)) (length (now v)) ⌝ }
-    ensures y { λ _. ⌜ now (y .exit) ≡ painted (roundUp 16 width) (roundUp 16 height) whole (λ r c. cond (inside width height r c) (pixelAt (now (rgba .entry)) width r c .y) 0) (now (y .entry)) ⌝ }
-    ensures u { λ _. ⌜ now (u .exit) ≡ painted (roundUp 16 width) (roundUp 16 height) whole (λ r c. cond (inside width height r c) (pixelAt (now (rgba .entry)) width r c .u) 128) (now (u .entry)) ⌝ }
-    ensures v { λ _. ⌜ now (v .exit) ≡ painted (roundUp 16 width) (roundUp 16 height) whole (λ r c. cond (inside width height r c) (pixelAt (now (rgba .entry)) width r c .v) 128) (now (v .entry)) ⌝ }
+    ensures y { λ _. ⌜ now (y .exit) ≡ painted (roundUp 16 width) (roundUp 16 height) whole (λ r c. cond (inside width height r c) (inputAt (now (rgba .entry)) width r c .y) 0) (now (y .entry)) ⌝ }
+    ensures u { λ _. ⌜ now (u .exit) ≡ painted (roundUp 16 width) (roundUp 16 height) whole (λ r c. cond (inside width height r c) (inputAt (now (rgba .entry)) width r c .u) 128) (now (u .entry)) ⌝ }
+    ensures v { λ _. ⌜ now (v .exit) ≡ painted (roundUp 16 width) (roundUp 16 height) whole (λ r c. cond (inside width height r c) (inputAt (now (rgba .entry)) width r c .v) 128) (now (v .entry)) ⌝ }
 {
     pad_plane(y, width, height, 0);
     pad_plane(u, width, height, 128);

@@ -1,7 +1,7 @@
 -- `rgba_rows::convert_planes` meets its contract: padding, then the picture's own places, is the whole plane.
 -- Assumes nothing.
 use mathlib.Core.Path.{_∙_}
-use Rattle.rgba_rows.specs.Rows.{pixelAt}
+use Rattle.rgba_rows.specs.Rows.{inputAt}
 use Rattle.rgba_rows.proofs.Padding.{padded-plane}
 use borrow.Author.Needs.{needs}
 use Rattle.rgba_rows.proofs.convert_planes.Statement.{statement}
@@ -43,10 +43,10 @@ returns c =
     let a = p₁ .before .before .before .before .before .before .args in
     let px = a .rgba .now in
     let e = f .forward-rows .ensures in (
-      padded-plane (a .width) (a .height) 0 (λ r k. pixelAt px (a .width) r k .y) (a .y .now) (p₁ .pad-plane .ensures) (e .0),
+      padded-plane (a .width) (a .height) 0 (λ r k. inputAt px (a .width) r k .y) (a .y .now) (p₁ .pad-plane .ensures) (e .0),
       (
-        padded-plane (a .width) (a .height) 128 (λ r k. pixelAt px (a .width) r k .u) (a .u .now) (p₂ .pad-plane2 .ensures) (e .1 .0),
-        padded-plane (a .width) (a .height) 128 (λ r k. pixelAt px (a .width) r k .v) (a .v .now) (p₃ .pad-plane3 .ensures) (e .1 .1),
+        padded-plane (a .width) (a .height) 128 (λ r k. inputAt px (a .width) r k .u) (a .u .now) (p₂ .pad-plane2 .ensures) (e .1 .0),
+        padded-plane (a .width) (a .height) 128 (λ r k. inputAt px (a .width) r k .v) (a .v .now) (p₃ .pad-plane3 .ensures) (e .1 .1),
       ),
     )
 

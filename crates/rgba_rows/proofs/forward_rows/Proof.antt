@@ -11,16 +11,16 @@ use Rattle.lent.specs.Paint.{painted}
 use Rattle.lent.specs.Sizes.{roundUp}
 use Rattle.lent.proofs.Cells.{row-in}
 use Rattle.colour.specs.declared.Yuv.{Yuv}
-use Rattle.rgba_rows.specs.Rows.{colourAt, pixelAt, inside, lineOf, LineFits}
+use Rattle.rgba_rows.specs.Rows.{colourAt, inputAt, inside, lineOf, LineFits}
 use Rattle.rgba_rows.proofs.Converted.{RowsSoFar, rows-so-far-none, rows-so-far-next, rows-so-far-all, part-colour, pixels-in}
 use Rattle.rgba_rows.proofs.forward_rows.Statement.{statement}
 use Rattle.rgba_rows.proofs.forward_rows.Tie as tie
 
 abbrev Inv-loop : tie.InvT-loop
 Inv-loop rgba width height y₀ u₀ v₀ stride n m row₀ y u v row =
-    RowsSoFar stride (roundUp 16 height) width height (λ r c. pixelAt rgba width r c .y) y₀ y row
-    × RowsSoFar stride (roundUp 16 height) width height (λ r c. pixelAt rgba width r c .u) u₀ u row
-    × RowsSoFar stride (roundUp 16 height) width height (λ r c. pixelAt rgba width r c .v) v₀ v row
+    RowsSoFar stride (roundUp 16 height) width height (λ r c. inputAt rgba width r c .y) y₀ y row
+    × RowsSoFar stride (roundUp 16 height) width height (λ r c. inputAt rgba width r c .u) u₀ u row
+    × RowsSoFar stride (roundUp 16 height) width height (λ r c. inputAt rgba width r c .v) v₀ v row
 
 abbrev μ-loop : tie.MeasureT-loop
 μ-loop rgba width height y₀ u₀ v₀ stride n m row₀ y u v row = height - row
@@ -80,7 +80,7 @@ loop-less : tie.Need-loop-less Inv-loop μ-loop
 loop-less c = omega arith
 
 -- a pixel of the row's part is the input's
-pixel : (px : List ℕ) (width row j : ℕ) → j < width → colourAt (lineOf px (4 * (row * width)) width) j ≡ pixelAt px width row j
+pixel : (px : List ℕ) (width row j : ℕ) → j < width → colourAt (lineOf px (4 * (row * width)) width) j ≡ inputAt px width row j
 pixel px width row j h = part-colour px (row * width) (4 * (row * width)) (4 * width) j refl (omega arith)
 
 loop-again : tie.Need-loop-again Inv-loop μ-loop
@@ -115,10 +115,10 @@ returns c =
     let px = a .rgba .now in
     let width = st .round-up-16 .ensures in
     let end = c .loop-test .left in (
-      rows-so-far-all _ _ (a .width) (a .height) _ _ (l .loop .row) (l .loop .inv .0) end ∙ ap (λ (w : ℕ). painted w (roundUp 16 (a .height)) (inside (a .width) (a .height)) (λ r k. pixelAt px (a .width) r k .y) (a .y .now)) width,
+      rows-so-far-all _ _ (a .width) (a .height) _ _ (l .loop .row) (l .loop .inv .0) end ∙ ap (λ (w : ℕ). painted w (roundUp 16 (a .height)) (inside (a .width) (a .height)) (λ r k. inputAt px (a .width) r k .y) (a .y .now)) width,
       (
-        rows-so-far-all _ _ (a .width) (a .height) _ _ (l .loop .row) (l .loop .inv .1) end ∙ ap (λ (w : ℕ). painted w (roundUp 16 (a .height)) (inside (a .width) (a .height)) (λ r k. pixelAt px (a .width) r k .u) (a .u .now)) width,
-        rows-so-far-all _ _ (a .width) (a .height) _ _ (l .loop .row) (l .loop .inv .2) end ∙ ap (λ (w : ℕ). painted w (roundUp 16 (a .height)) (inside (a .width) (a .height)) (λ r k. pixelAt px (a .width) r k .v) (a .v .now)) width,
+        rows-so-far-all _ _ (a .width) (a .height) _ _ (l .loop .row) (l .loop .inv .1) end ∙ ap (λ (w : ℕ). painted w (roundUp 16 (a .height)) (inside (a .width) (a .height)) (λ r k. inputAt px (a .width) r k .u) (a .u .now)) width,
+        rows-so-far-all _ _ (a .width) (a .height) _ _ (l .loop .row) (l .loop .inv .2) end ∙ ap (λ (w : ℕ). painted w (roundUp 16 (a .height)) (inside (a .width) (a .height)) (λ r k. inputAt px (a .width) r k .v) (a .v .now)) width,
       ),
     )
 
