@@ -20,7 +20,7 @@ use Rattle.layout.specs.declared.Layout.the-variants.{V1, V2}
 use Rattle.layout.specs.Maps.{Part, PY, PU, PV, place, partOf, maps}
 use Rattle.layout.specs.Exists.{side, fed}
 use Rattle.layout.proofs.Fed.{maps-fed}
-use Rattle.combine.specs.Rects.{taken, area}
+use Rattle.rects.specs.Rects.{taken, area}
 use Rattle.combine.specs.Main.{mainLuma, mainChroma, halved, chromaAfter}
 use Rattle.auxiliary_rows.specs.Rows.{partSample, auxSource}
 use Rattle.auxiliary.specs.Auxiliary.{auxIn, auxRule, auxAfter}

@@ -12,7 +12,8 @@ use Rattle.picture.specs.Sizes.{strideOf}
 use Rattle.view.specs.declared.View.{View}
 use Rattle.layout.specs.declared.Layout.{Layout}
 use Rattle.layout.specs.declared.Layout.the-variants.{V1, V2}
-use Rattle.combine.specs.Main.{mainNumberOf, mainBuffersOf, MainOutcome}
+use Rattle.rects.specs.Number.{mainNumberOf}
+use Rattle.combine.specs.Main.{mainBuffersOf, MainOutcome}
 use Rattle.auxiliary.specs.Auxiliary.{auxBuffersOf, AuxOutcome}
 use Rattle.split.specs.declared.Views.{Views}
 use Rattle.split.specs.Split.{Planes, lengthsOf, mainSample, auxSample, viewAfter, splitNumberOf, splitAnswerOf, splitBuffersOf, SplitEnds}

@@ -10,9 +10,9 @@ use Rattle.lent.proofs.Taken.{box-facts, box-holds}
 use Rattle.picture.specs.declared.Size.{Size}
 use Rattle.picture.specs.Sizes.{strideOf, rowsOf}
 use Rattle.view.specs.declared.View.{View}
-use Rattle.combine.specs.Rects.{Rule, rectAtOf, nth, taken, area}
+use Rattle.rects.specs.Rects.{Rule, rectAtOf, nth, taken, area}
 use Rattle.combine.specs.Main.{mainLuma}
-use Rattle.combine.proofs.Rects.{taken-facts, taken-holds, area-facts}
+use Rattle.rects.proofs.Rects.{taken-facts, taken-holds, area-facts}
 use Rattle.combine.proofs.Main.{mainLuma-facts, mainLuma-holds}
 use Rattle.agree_law.specs.Agrees.{inRect, inside, widened}
 

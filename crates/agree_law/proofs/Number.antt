@@ -22,7 +22,7 @@ use Rattle.view.specs.View.{narrow, planeShort}
 use Rattle.view.proofs.Exactly.{narrow-none}
 use Rattle.layout.specs.declared.Layout.{Layout}
 use Rattle.layout.specs.declared.Layout.the-variants.{V1, V2}
-use Rattle.combine.specs.Number.{notFours, applyNumberOf}
+use Rattle.rects.specs.Number.{notFours, applyNumberOf}
 use Rattle.split.specs.declared.PlaneLengths.{PlaneLengths}
 use Rattle.split_views.specs.Fits.{Room}
 use Rattle.split.specs.Split.{Planes, lengthsOf, viewShort, splitNumberOf}

@@ -16,7 +16,7 @@ use Rattle.lent.specs.Samples.{sample}
 use Rattle.picture.specs.declared.Size.{Size}
 use Rattle.picture.specs.Sizes.{strideOf, rowsOf}
 use Rattle.layout.specs.declared.Chroma.{Chroma}
-use Rattle.combine.specs.Rects.{Rule, taken, area}
+use Rattle.rects.specs.Rects.{Rule, taken, area}
 use Rattle.split.specs.Split.{Planes, chromaOf}
 
 pub record Picture : Type 0 where

@@ -18,7 +18,7 @@ use Rattle.layout.specs.declared.Chroma.{Chroma}
 use Rattle.layout.specs.declared.Chroma.the-variants.{CU, CV}
 use Rattle.layout.specs.Maps.{Part, PY, PU, PV, Place, Spot, Maps, place, spot, partOf}
 use Rattle.layout.specs.Exists.{side, present, leftOut}
-use Rattle.combine.specs.Rects.{taken}
+use Rattle.rects.specs.Rects.{taken}
 use Rattle.combine.specs.Main.{mainLuma}
 use Rattle.agree_law.specs.Agrees.{Picture, widened}
 

@@ -30,8 +30,8 @@ use Rattle.picture.specs.declared.Size.{Size}
 use Rattle.picture.specs.Sizes.{strideOf, rowsOf, planesShort, PlanesFit}
 use Rattle.view.specs.declared.View.{View}
 use Rattle.layout.specs.declared.Layout.{Layout}
-use Rattle.combine.specs.Number.{notFours}
-use Rattle.combine.specs.Main.{mainNumberOf, mainBuffersOf}
+use Rattle.rects.specs.Number.{notFours, mainNumberOf}
+use Rattle.combine.specs.Main.{mainBuffersOf}
 use Rattle.auxiliary.specs.Auxiliary.{auxBuffersOf}
 use Rattle.split.specs.declared.PlaneLengths.{PlaneLengths}
 use Rattle.split.specs.declared.Views.{Views}

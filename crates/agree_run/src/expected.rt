@@ -2,8 +2,8 @@
 ghost use Prim.Native.Nat.{_<_};
 use crate::samples;
 use crate::samples::Kind;
-use combine::Rect;
 use picture::Size;
+use rects::Rect;
 
 // Bytes compared, inside and elsewhere, and those that differ.
 pub(crate) struct Count {
@@ -86,7 +86,7 @@ fn taken(size: Size, rects: &[u16], chroma: bool, row: usize, col: usize) -> boo
     let n = rects.len() / 4;
     let mut i = 0;
     while i < n {
-        if takes(size, combine::rect_at(rects, i), chroma, row, col) {
+        if takes(size, rects::rect_at(rects, i), chroma, row, col) {
             return true;
         }
         i += 1;

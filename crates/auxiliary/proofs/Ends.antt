@@ -7,7 +7,7 @@ use Rattle.view.specs.declared.View.{View}
 use Rattle.layout.specs.declared.Chroma.the-variants.{CU, CV}
 use Rattle.layout.specs.declared.Layout.{Layout}
 use Rattle.lent.proofs.Ends.{answer-none, lent-refused, lent-done}
-use Rattle.combine.specs.Main.{mainNumberOf}
+use Rattle.rects.specs.Number.{mainNumberOf}
 use Rattle.auxiliary.specs.Auxiliary.{auxAfter, AuxOutcome}
 
 module _ (t : Layout) (z : Size) (w : View) (rects vy vu vv y u v : List ℕ) where

@@ -24,10 +24,10 @@ use Rattle.layout.specs.Maps.{Part, PY, PU, PV, Spot, place, maps}
 use Rattle.layout.specs.Exists.{side, present, fed}
 use Rattle.layout.proofs.Exists.{leftOut-facts, present-facts}
 use Rattle.layout.proofs.Pairs.{fed-facts}
-use Rattle.combine.specs.Rects.{rectAtOf, nth, taken, chromaBlockAreaOf, inArea}
-use Rattle.combine.proofs.Rects.{AllIn, taken-facts, list-same, list-none, list-empty}
+use Rattle.rects.specs.Rects.{rectAtOf, nth, taken, chromaBlockAreaOf, inArea}
+use Rattle.rects.proofs.Rects.{AllIn, taken-facts, list-same, list-none, list-empty}
 use Rattle.combine.proofs.MainLaws.{NoArea}
-use Rattle.combine.specs.Main.{mainNumberOf}
+use Rattle.rects.specs.Number.{mainNumberOf}
 use Rattle.auxiliary_rows.specs.Rows.{partSample, viewSample, auxSource}
 use Rattle.auxiliary_rows.proofs.Columns.{painted-join}
 use Rattle.auxiliary.specs.Auxiliary.{auxIn, auxRule, auxAfter, auxBuffersOf, AuxOutcome}

@@ -15,8 +15,8 @@ use Rattle.picture.specs.Sizes.{strideOf, rowsOf}
 use Rattle.view.specs.declared.View.{View}
 use Rattle.layout.specs.declared.Layout.{Layout}
 use Rattle.layout.specs.Exists.{fed}
-use Rattle.combine.specs.declared.Area.{Area}
-use Rattle.combine.specs.Rects.{chromaBlockAreaOf, inArea}
+use Rattle.rects.specs.declared.Area.{Area}
+use Rattle.rects.specs.Rects.{chromaBlockAreaOf, inArea}
 use Rattle.auxiliary_rows.specs.Rows.{auxRow, RowsFit}
 use Rattle.auxiliary.specs.Auxiliary.{auxIn}
 

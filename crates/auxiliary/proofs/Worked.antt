@@ -9,7 +9,7 @@ use Rattle.lent.specs.Sizes.{halfUp}
 use Rattle.layout.specs.declared.Layout.{Layout}
 use Rattle.layout.specs.declared.Layout.the-variants.{V1, V2}
 use Rattle.layout.specs.Exists.{fed}
-use Rattle.combine.specs.Rects.{nth, takenBy, taken}
+use Rattle.rects.specs.Rects.{nth, takenBy, taken}
 use Rattle.auxiliary.specs.Auxiliary.{auxIn, auxRule}
 
 -- an auxiliary view of vw by vh gives row r, column c of a picture of pw by ph that one rectangle covers

@@ -2,7 +2,7 @@
 --
 --   auxIn t w a r c               row r, column c lies in the widened area a, and the auxiliary view w of the layout t gives both U and V
 --                                 there (layout's `fed`: the main view leaves the sample out, and the pair exists)
---   auxRule t z w                 the same of a rectangle's widened area, as a rule of `combine`
+--   auxRule t z w                 the same of a rectangle's widened area, as a rule of `rects`
 --   auxAfter t k z w rects vy vu vv plane      the chroma plane k after an accepted call: each sample that some rectangle takes is the view's
 --                                 sample at its spot (`auxSource`), and every other byte is as before
 --   AuxOutcome ...                how the call ends, refusals included: its number is that of the main view's call on the same buffers
@@ -20,9 +20,9 @@ use Rattle.layout.specs.declared.Chroma.{Chroma}
 use Rattle.layout.specs.declared.Chroma.the-variants.{CU, CV}
 use Rattle.layout.specs.declared.Layout.{Layout}
 use Rattle.layout.specs.Exists.{fed}
-use Rattle.combine.specs.declared.Area.{Area}
-use Rattle.combine.specs.Rects.{Rule, taken, chromaBlockAreaOf, inArea}
-use Rattle.combine.specs.Main.{mainNumberOf}
+use Rattle.rects.specs.declared.Area.{Area}
+use Rattle.rects.specs.Rects.{Rule, taken, chromaBlockAreaOf, inArea}
+use Rattle.rects.specs.Number.{mainNumberOf}
 use Rattle.auxiliary_rows.specs.Rows.{auxSource}
 
 unfoldable pub auxIn : Layout → View → Area → ℕ → ℕ → Bool

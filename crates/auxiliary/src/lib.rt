@@ -11,14 +11,14 @@ ghost use Rattle.lent.specs.Paint.{painted};
 ghost use Rattle.picture.specs.Sizes.{strideOf, rowsOf};
 ghost use Rattle.view.specs.View.{ViewFits};
 ghost use Rattle.layout.specs.declared.Layout.the-variants.{V1, V2};
-ghost use Rattle.combine.specs.Rects.{by};
+ghost use Rattle.rects.specs.Rects.{by};
 ghost use Rattle.auxiliary_rows.specs.Rows.{auxSource, auxRow, RowsFit};
 ghost use Rattle.auxiliary.specs.Auxiliary.{auxIn, auxRule, auxAfter, AuxOutcome};
-use combine::Area;
-use combine::Rect;
 use layout::Chroma;
 use layout::Layout;
 use picture::Size;
+use rects::Area;
+use rects::Rect;
 use view::View;
 
 // One row of a chroma plane, by either layout.
@@ -96,7 +96,7 @@ fn aux_rect(
     requires { ⌜ ViewFits w (length (now vy)) (length (now vu)) (length (now vv)) ⌝ }
     ensures { λ _. ⌜ now (plane .exit) ≡ painted (strideOf size) (rowsOf size) (by (auxRule layout size w) rect) (auxSource layout which w (now (vy .entry)) (now (vu .entry)) (now (vv .entry))) (now (plane .entry)) ⌝ }
 {
-    let area = combine::chroma_block_area(size, rect.left, rect.top, rect.right, rect.bottom);
+    let area = rects::chroma_block_area(size, rect.left, rect.top, rect.right, rect.bottom);
     if area.right <= area.left {
         return;
     }
@@ -122,7 +122,7 @@ fn aux_rects(
     let count = rects.len() / 4;
     let mut i = 0;
     while i < count {
-        let rect = combine::rect_at(rects, i);
+        let rect = rects::rect_at(rects, i);
         aux_rect(layout, which, plane, size, rect, w, vy, vu, vv);
         i += 1;
     }
@@ -143,7 +143,7 @@ pub fn apply_auxiliary_view(
 ) -> lent::Answer
     ensures { λ r. ⌜ AuxOutcome layout size w (now (rects .entry)) (now (vy .entry)) (now (vu .entry)) (now (vv .entry)) (now (y .entry)) (now (u .entry)) (now (v .entry)) r (now (y .exit) ∷ now (u .exit) ∷ now (v .exit) ∷ []) ⌝ }
 {
-    let number = combine::apply_number(size, y.len(), u.len(), v.len(), rects.len(), w, vy, vu, vv);
+    let number = rects::apply_number(size, y.len(), u.len(), v.len(), rects.len(), w, vy, vu, vv);
     if number != 0 {
         return lent::Answer {
             number: number,

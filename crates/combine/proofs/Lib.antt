@@ -1,6 +1,4 @@
--- The laws of the words in specs/: start at Rects.antt and Number.antt.
-pub mod Rects
-pub mod Number
+-- The laws of the words in specs/: start at Main.antt. Those of lists and numbers are in `rects`.
 pub mod Rows
 pub mod Main
 pub mod MainLaws

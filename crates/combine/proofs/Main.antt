@@ -20,11 +20,12 @@ use Rattle.view.specs.declared.Plane.{Plane}
 use Rattle.view.specs.View.{lumaOf, chromaOf}
 use Rattle.main_rows.specs.Rows.{RowsFit}
 use Rattle.main_rows.proofs.Rows.{upTo-facts, upTo-holds}
-use Rattle.combine.specs.Rects.{area}
-use Rattle.combine.specs.Main.{mainLuma, mainChroma, lumaAfter, chromaAfter, mainNumberOf, MainOutcome}
+use Rattle.rects.specs.Rects.{area}
+use Rattle.rects.specs.Number.{mainNumberOf}
+use Rattle.combine.specs.Main.{mainLuma, mainChroma, lumaAfter, chromaAfter, MainOutcome}
 use Rattle.combine.specs.Fits.{RectFits}
 use Rattle.lent.proofs.Ends.{answer-none, lent-refused, lent-done}
-use Rattle.combine.proofs.Rects.{area-facts, area-holds}
+use Rattle.rects.proofs.Rects.{area-facts, area-holds}
 
 module _ (z : Size) (w : View) (left top right bottom : ℕ) where
   -- where the columns and the rows end, in the code's order

@@ -1,6 +1,6 @@
 -- What the main view does and does not do, for a reader: empty areas, empty rectangles with an odd left edge, views that look alike, and
 -- the one way in which the call ends. That order and repetition of a list have no effect, and that an empty list changes nothing, are
--- `list-same` and `list-empty` of Rects.antt, at either rule.
+-- `list-same` and `list-empty` of `rects`, at either rule.
 -- Assumes nothing.
 use Prim.Native.Nat.{ℕ, _+_, _*_, _/_, _%_, _<_, _≤_, min}
 use native.Mathlib.Omega.{arith}
@@ -21,9 +21,10 @@ use Rattle.picture.specs.declared.Size.{Size}
 use Rattle.view.specs.declared.View.{View}
 use Rattle.view.specs.View.{chromaOf}
 use Rattle.view.specs.Alike.{SameSamples, Alike}
-use Rattle.combine.specs.Rects.{Rule, rectAtOf, nth, area, taken}
-use Rattle.combine.specs.Main.{mainLuma, mainChroma, halved, lumaAfter, chromaAfter, mainNumberOf, mainBuffersOf, MainOutcome}
-use Rattle.combine.proofs.Rects.{taken-facts, list-one}
+use Rattle.rects.specs.Rects.{Rule, rectAtOf, nth, area, taken}
+use Rattle.rects.specs.Number.{mainNumberOf}
+use Rattle.combine.specs.Main.{mainLuma, mainChroma, halved, lumaAfter, chromaAfter, mainBuffersOf, MainOutcome}
+use Rattle.rects.proofs.Rects.{taken-facts, list-one}
 use Rattle.combine.proofs.Main.{mainLuma-facts, mainChroma-facts, mainChroma-holds, chromaBelow}
 
 module _ (z : Size) (w : View) (left top right bottom : ℕ) where

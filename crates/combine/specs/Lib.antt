@@ -1,6 +1,4 @@
--- Rectangle lists, the numbers of the apply calls, and the main view.
-pub mod Rects
-pub mod Number
+-- The main view, over the rectangle lists and the numbers of `rects`.
 pub mod Main
 pub mod Columns
 pub mod Fits

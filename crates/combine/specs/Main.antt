@@ -12,7 +12,6 @@ use Prim.Native.Nat.{ℕ, min}
 use mathlib.Core.Bool.{Bool, _&&_}
 use mathlib.Core.List.{List, [], _∷_}
 use lib.Dec.{ltb}
-use lib.ListN.{length}
 use Rattle.lent.specs.declared.Answer.{Answer}
 use Rattle.lent.specs.Outcome.{Outcome, answerOf, lentAfter}
 use Rattle.lent.specs.Paint.{painted, box, upTo}
@@ -20,8 +19,8 @@ use Rattle.lent.specs.Samples.{sample}
 use Rattle.picture.specs.declared.Size.{Size}
 use Rattle.picture.specs.Sizes.{strideOf, rowsOf}
 use Rattle.view.specs.declared.View.{View}
-use Rattle.combine.specs.Rects.{Rule, taken, chromaBlockAreaOf, area}
-use Rattle.combine.specs.Number.{applyNumberOf}
+use Rattle.rects.specs.Rects.{Rule, taken, chromaBlockAreaOf, area}
+use Rattle.rects.specs.Number.{mainNumberOf}
 unfoldable pub use Rattle.main_rows.specs.Rows.{halved}
 
 unfoldable pub mainLuma : Size → View → Rule
@@ -41,9 +40,6 @@ chromaAfter z w rects samples plane = painted (strideOf z) (rowsOf z) (taken (ma
 abbrev pub mainBuffersOf : ℕ → Size → View → List ℕ → List ℕ → List ℕ → List ℕ → List ℕ → List ℕ → List ℕ → List (List ℕ)
 mainBuffersOf n z w rects vy vu vv y u v =
     lentAfter n y (lumaAfter z w rects vy y) ∷ lentAfter n u (chromaAfter z w rects vu u) ∷ lentAfter n v (chromaAfter z w rects vv v) ∷ []
-
-abbrev pub mainNumberOf : Size → View → List ℕ → List ℕ → List ℕ → List ℕ → List ℕ → List ℕ → List ℕ → ℕ
-mainNumberOf z w rects vy vu vv y u v = applyNumberOf z w (length y) (length u) (length v) (length rects) (length vy) (length vu) (length vv)
 
 abbrev pub MainOutcome : Size → View → List ℕ → List ℕ → List ℕ → List ℕ → List ℕ → List ℕ → List ℕ → Answer → List (List ℕ) → Type 0
 MainOutcome z w rects vy vu vv y u v =

@@ -4,9 +4,8 @@ use borrow.Author.Needs.{needs}
 use mathlib.Core.Path.{_≡_, sym, _∙_}
 use lib.ListN.{length}
 use denote.Ref.{now}
-use Rattle.combine.specs.Number.{Accepted}
-use Rattle.combine.proofs.Number.{apply-fits}
-use Rattle.combine.specs.Main.{mainNumberOf}
+use Rattle.rects.specs.Number.{Accepted, mainNumberOf}
+use Rattle.rects.proofs.Number.{apply-fits}
 use Rattle.auxiliary.proofs.Ends.{aux-refused, aux-done}
 use Rattle.auxiliary.proofs.apply_auxiliary_view.Statement.{statement}
 use Rattle.auxiliary.proofs.apply_auxiliary_view.Tie as tie

@@ -7,8 +7,8 @@ use lib.ListN.{length}
 use denote.Ref.{now}
 use Rattle.lent.specs.Paint.{painted}
 use Rattle.picture.specs.Sizes.{strideOf, rowsOf}
-use Rattle.combine.specs.declared.Area.{Area}
-use Rattle.combine.specs.Rects.{chromaBlockAreaOf}
+use Rattle.rects.specs.declared.Area.{Area}
+use Rattle.rects.specs.Rects.{chromaBlockAreaOf}
 use Rattle.auxiliary_rows.specs.Rows.{auxSource, RowsFit}
 use Rattle.auxiliary.specs.Auxiliary.{auxIn}
 use Rattle.auxiliary.proofs.Taken.{area-none, area-fits}

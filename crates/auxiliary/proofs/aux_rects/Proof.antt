@@ -7,8 +7,8 @@ use mathlib.Core.Path.{_≡_, refl, _∙_}
 use lib.ListN.{length}
 use Rattle.lent.specs.Paint.{painted}
 use Rattle.picture.specs.Sizes.{strideOf, rowsOf}
-use Rattle.combine.specs.Rects.{takenBy}
-use Rattle.combine.proofs.Rects.{rects-none, rects-more, rects-all}
+use Rattle.rects.specs.Rects.{takenBy}
+use Rattle.rects.proofs.Rects.{rects-none, rects-more, rects-all}
 use Rattle.auxiliary_rows.specs.Rows.{auxSource}
 use Rattle.auxiliary.specs.Auxiliary.{auxRule}
 use Rattle.auxiliary.proofs.aux_rects.Statement.{statement}

@@ -4,9 +4,8 @@ use borrow.Author.Needs.{needs}
 use mathlib.Core.Path.{_≡_, sym, _∙_}
 use lib.ListN.{length}
 use denote.Ref.{now}
-use Rattle.combine.specs.Number.{Accepted}
-use Rattle.combine.specs.Main.{mainNumberOf}
-use Rattle.combine.proofs.Number.{apply-fits}
+use Rattle.rects.specs.Number.{Accepted, mainNumberOf}
+use Rattle.rects.proofs.Number.{apply-fits}
 use Rattle.combine.proofs.Main.{main-refused, main-done}
 use Rattle.combine.proofs.apply_main_view.Statement.{statement}
 use Rattle.combine.proofs.apply_main_view.Tie as tie

@@ -7,8 +7,8 @@ use mathlib.Core.Path.{_≡_, refl, sym, ap, _∙_}
 use denote.Ref.{now}
 use Rattle.lent.specs.Paint.{painted, box, upTo}
 use Rattle.picture.specs.Sizes.{strideOf, rowsOf}
-use Rattle.combine.specs.declared.Area.{Area}
-use Rattle.combine.specs.Rects.{chromaBlockAreaOf}
+use Rattle.rects.specs.declared.Area.{Area}
+use Rattle.rects.specs.Rects.{chromaBlockAreaOf}
 use Rattle.combine.specs.Main.{mainChroma, halved}
 use Rattle.combine.proofs.Main.{chromaEnd, chromaBelow, chroma-box, chroma-asks}
 use Rattle.combine.proofs.Rows.{box-rows-empty}

@@ -7,9 +7,9 @@ use mathlib.Core.Path.{_≡_, refl, _∙_}
 use lib.ListN.{length}
 use Rattle.lent.specs.Paint.{painted}
 use Rattle.picture.specs.Sizes.{strideOf, rowsOf}
-use Rattle.combine.specs.Rects.{takenBy}
+use Rattle.rects.specs.Rects.{takenBy}
 use Rattle.combine.specs.Main.{mainChroma, halved}
-use Rattle.combine.proofs.Rects.{rects-none, rects-more, rects-all}
+use Rattle.rects.proofs.Rects.{rects-none, rects-more, rects-all}
 use Rattle.combine.proofs.chroma_rects.Statement.{statement}
 use Rattle.combine.proofs.chroma_rects.Tie as tie
 

@@ -7,7 +7,7 @@ use mathlib.Core.Path.{_≡_, refl, _∙_}
 use lib.ListN.{length}
 use Rattle.lent.specs.Paint.{painted, upTo}
 use Rattle.picture.specs.Sizes.{strideOf, rowsOf}
-use Rattle.combine.specs.Rects.{inArea}
+use Rattle.rects.specs.Rects.{inArea}
 use Rattle.combine.specs.Main.{halved}
 use Rattle.combine.proofs.Rows.{box-rows-none, box-rows-more, box-rows-all}
 use Rattle.combine.proofs.chroma_rows.Statement.{statement}

@@ -8,9 +8,9 @@ use lib.ListN.{length}
 use Rattle.lent.specs.Paint.{painted}
 use Rattle.lent.specs.Samples.{sample}
 use Rattle.picture.specs.Sizes.{strideOf, rowsOf}
-use Rattle.combine.specs.Rects.{takenBy}
+use Rattle.rects.specs.Rects.{takenBy}
 use Rattle.combine.specs.Main.{mainLuma}
-use Rattle.combine.proofs.Rects.{rects-none, rects-more, rects-all}
+use Rattle.rects.proofs.Rects.{rects-none, rects-more, rects-all}
 use Rattle.combine.proofs.luma_rects.Statement.{statement}
 use Rattle.combine.proofs.luma_rects.Tie as tie
 

@@ -8,7 +8,7 @@ use lib.ListN.{length}
 use Rattle.lent.specs.Paint.{painted, upTo}
 use Rattle.lent.specs.Samples.{sample}
 use Rattle.picture.specs.Sizes.{strideOf, rowsOf}
-use Rattle.combine.specs.Rects.{inArea}
+use Rattle.rects.specs.Rects.{inArea}
 use Rattle.combine.proofs.Rows.{box-rows-none, box-rows-more, box-rows-all}
 use Rattle.combine.proofs.luma_rows.Statement.{statement}
 use Rattle.combine.proofs.luma_rows.Tie as tie

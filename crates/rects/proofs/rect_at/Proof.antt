@@ -1,10 +1,10 @@
--- `combine::rect_at` meets its contract: the four numbers from place 4 i on. Rectangle i is below length / 4, so all four are there.
+-- `rects::rect_at` meets its contract: the four numbers from place 4 i on. Rectangle i is below length / 4, so all four are there.
 -- Assumes nothing.
 use borrow.Author.Needs.{needs}
 use native.Mathlib.Omega.{arith}
 use mathlib.Core.Path.{refl}
-use Rattle.combine.proofs.rect_at.Statement.{statement}
-use Rattle.combine.proofs.rect_at.Tie as tie
+use Rattle.rects.proofs.rect_at.Statement.{statement}
+use Rattle.rects.proofs.rect_at.Tie as tie
 
 mul-at : tie.Need-mul-at
 mul-at c = omega arith

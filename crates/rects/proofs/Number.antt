@@ -14,7 +14,7 @@ use Rattle.picture.proofs.Sizes.{planes-fit}
 use Rattle.view.specs.declared.View.{View}
 use Rattle.view.specs.View.{narrow, planeShort, viewNumberOf}
 use Rattle.view.proofs.Exactly.{view-0-exactly, accepted-fits}
-use Rattle.combine.specs.Number.{notFours, applyNumberOf, Accepted}
+use Rattle.rects.specs.Number.{notFours, applyNumberOf, Accepted}
 
 module _ (z : Size) (w : View) (ny nu nv nr my mu mv : ℕ) where
   pub apply-0-exactly : (applyNumberOf z w ny nu nv nr my mu mv ≡ 0)

@@ -1,12 +1,12 @@
--- `combine::apply_number` meets its contract: each return is the first test that held, and the view's own number is the rest of the list.
+-- `rects::apply_number` meets its contract: each return is the first test that held, and the view's own number is the rest of the list.
 -- Assumes nothing.
 use borrow.Author.Needs.{needs}
 use borrow.Author.Tests.{eq-eqb, ne-eqb}
 use mathlib.Core.Path.{sym}
 use Rattle.view.specs.View.{viewNumberOf}
-use Rattle.combine.specs.Number.{applyNumberOf}
-use Rattle.combine.proofs.apply_number.Statement.{statement}
-use Rattle.combine.proofs.apply_number.Tie as tie
+use Rattle.rects.specs.Number.{applyNumberOf}
+use Rattle.rects.proofs.apply_number.Statement.{statement}
+use Rattle.rects.proofs.apply_number.Tie as tie
 
 planes-short-requires : tie.Need-planes-short-requires
 planes-short-requires c κs = search needs

@@ -14,8 +14,8 @@ use Rattle.lent.proofs.Lists.{some-none, some-more, some-facts, some-holds, som
 use Rattle.lent.proofs.Painted.{painted-none, painted-ext}
 use Rattle.lent.proofs.Taken.{box-facts, box-holds}
 use Rattle.picture.specs.declared.Size.{Size}
-use Rattle.combine.specs.declared.Rect.{Rect}
-use Rattle.combine.specs.Rects.{Rule, rectAtOf, by, nth, takenBy, taken, area}
+use Rattle.rects.specs.declared.Rect.{Rect}
+use Rattle.rects.specs.Rects.{Rule, rectAtOf, by, nth, takenBy, taken, area}
 
 -- ---- the loop over a list: the plane is painted by what the first n rectangles take
 

@@ -17,8 +17,8 @@ use lib.ListN.{length, getD}
 use Rattle.lent.specs.Paint.{box, some}
 use Rattle.lent.specs.Sizes.{roundUp}
 use Rattle.picture.specs.declared.Size.{Size}
-use Rattle.combine.specs.declared.Area.{Area}
-use Rattle.combine.specs.declared.Rect.{Rect}
+use Rattle.rects.specs.declared.Area.{Area}
+use Rattle.rects.specs.declared.Rect.{Rect}
 
 abbrev pub Rule : Type 0
 Rule = ℕ → ℕ → ℕ → ℕ → ℕ → ℕ → Bool

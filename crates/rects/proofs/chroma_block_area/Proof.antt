@@ -1,8 +1,8 @@
--- `combine::chroma_block_area` meets its contract: each edge comes from its own call.
+-- `rects::chroma_block_area` meets its contract: each edge comes from its own call.
 -- Assumes nothing.
 use borrow.Author.Needs.{needs}
-use Rattle.combine.proofs.chroma_block_area.Statement.{statement}
-use Rattle.combine.proofs.chroma_block_area.Tie as tie
+use Rattle.rects.proofs.chroma_block_area.Statement.{statement}
+use Rattle.rects.proofs.chroma_block_area.Tie as tie
 
 edge-down-requires : tie.Need-edge-down-requires
 edge-down-requires c κs = search needs

@@ -1,0 +1,3 @@
+-- The laws of the words in specs/.
+pub mod Rects
+pub mod Number
