@@ -15,7 +15,7 @@ use Rattle.layout.specs.declared.Layout.the-variants.{V1, V2}
 use Rattle.rects.specs.Number.{mainNumberOf}
 use Rattle.combine.specs.Main.{mainBuffersOf, MainOutcome}
 use Rattle.auxiliary.specs.Auxiliary.{auxBuffersOf, AuxOutcome}
-use Rattle.split.specs.declared.Views.{Views}
+use Rattle.split_number.specs.declared.Views.{Views}
 use Rattle.split.specs.Split.{Planes, lengthsOf, mainSample, auxSample, viewAfter, splitNumberOf, splitAnswerOf, splitBuffersOf, SplitEnds}
 use Rattle.agree_law.specs.Agrees.{pictureOf, Agrees}
 use Rattle.agree_law.specs.Through.{buffersIn, threeOf, viewOf, viewIn, mainViewOf, auxViewOf, withMain, throughOf, firstOf, applyNumberOn, throughNumberOf, earlierNumberOf, planesAfter, throughBuffersOf, ThroughEnds}

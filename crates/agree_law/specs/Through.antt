@@ -33,8 +33,8 @@ use Rattle.layout.specs.declared.Layout.{Layout}
 use Rattle.rects.specs.Number.{notFours, mainNumberOf}
 use Rattle.combine.specs.Main.{mainBuffersOf}
 use Rattle.auxiliary.specs.Auxiliary.{auxBuffersOf}
-use Rattle.split.specs.declared.PlaneLengths.{PlaneLengths}
-use Rattle.split.specs.declared.Views.{Views}
+use Rattle.split_number.specs.declared.PlaneLengths.{PlaneLengths}
+use Rattle.split_number.specs.declared.Views.{Views}
 use Rattle.split_views.specs.Fits.{Room}
 use Rattle.split.specs.Split.{Planes, planes, lengthsOf, mainSample, auxSample, viewAfter, splitNumberOf}
 use Rattle.agree_law.specs.Agrees.{pictureOf, Agrees}

@@ -8,20 +8,19 @@ use mathlib.Core.List.{[], _∷_}
 use lib.Dec.{eqb}
 use borrow.Author.Tests.{eq-eqb, ne-eqb, ltb-false}
 use Rattle.lent.specs.Sizes.{tooShort}
-use Rattle.lent.proofs.Bools.{or-left, or-right}
 use Rattle.lent.proofs.Exactly.{nor}
 use Rattle.picture.specs.declared.Size.{Size}
 use Rattle.picture.specs.Sizes.{strideOf, rowsOf}
 use Rattle.picture.proofs.Sizes.{planes-fit}
 use Rattle.layout.specs.declared.Layout.{Layout}
-use Rattle.split.specs.declared.PlaneLengths.{PlaneLengths}
-use Rattle.split.specs.declared.Views.{Views}
+use Rattle.split_number.specs.declared.PlaneLengths.{PlaneLengths}
+use Rattle.split_number.specs.declared.Views.{Views}
+use Rattle.split_number.proofs.Exactly.{split-0-exactly}
 use Rattle.split.specs.Split.{Planes, lengthsOf, mainSample, auxSample, tooLarge, viewShort, splitNumberOf, splitAnswerOf, splitBuffersOf, Written, SplitEnds}
 use Rattle.split_views.specs.Fits.{Whole, Room}
 use Rattle.split.specs.Accepted.{Accepted}
-use Rattle.split.proofs.Exactly.{split-0-exactly}
 
--- the tests of one view's planes, one after the other
+-- what 0 says
 module _ (z : Size) (n : PlaneLengths) where
   abbrev y-short : Bool
   y-short = tooShort (strideOf z) (rowsOf z) (n .y)
@@ -32,18 +31,6 @@ module _ (z : Size) (n : PlaneLengths) where
   abbrev v-short : Bool
   v-short = tooShort (strideOf z / 2) (rowsOf z / 2) (n .v)
 
-  pub short-1 : tooShort (strideOf z) (rowsOf z) (n .y) ≡ true → viewShort z n ≡ true
-  unfolding viewShort
-  short-1 e = or-left (y-short || u-short) v-short (or-left y-short u-short e)
-
-  pub short-2 : tooShort (strideOf z / 2) (rowsOf z / 2) (n .u) ≡ true → viewShort z n ≡ true
-  unfolding viewShort
-  short-2 e = or-left (y-short || u-short) v-short (or-right y-short u-short e)
-
-  pub short-3 : tooShort (strideOf z) (rowsOf z) (n .y) ≡ false → tooShort (strideOf z / 2) (rowsOf z / 2) (n .u) ≡ false → viewShort z n ≡ tooShort (strideOf z / 2) (rowsOf z / 2) (n .v)
-  unfolding viewShort
-  short-3 e f = rw (e, f)
-
   pub view-room : viewShort z n ≡ false → Room (n .y) (n .u) (n .v) (strideOf z) (rowsOf z)
   unfolding viewShort
   view-room e =
@@ -51,7 +38,6 @@ module _ (z : Size) (n : PlaneLengths) where
       let y = nor y-short u-short .0 (yu .0) in
       record { y-room = ltb-false _ _ (y .0); u-room = ltb-false _ _ (y .1); v-room = ltb-false _ _ (yu .1) }
 
--- what 0 says
 whole-plane : (z : Size) {n : ℕ} → rowsOf z * strideOf z ≤ n → Whole n (strideOf z) (rowsOf z)
 whole-plane z fits = record { fits = fits; wide = omega arith; high = omega arith }
 

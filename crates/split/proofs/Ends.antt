@@ -20,10 +20,10 @@ use Rattle.picture.specs.declared.Size.{Size}
 use Rattle.picture.specs.Sizes.{strideOf, rowsOf, planesShort}
 use Rattle.layout.specs.Maps.{Part, PY, PU, PV}
 use Rattle.layout.specs.declared.Layout.{Layout}
-use Rattle.split.specs.declared.PlaneLengths.{PlaneLengths}
-use Rattle.split.specs.declared.Views.{Views}
+use Rattle.split_number.specs.declared.PlaneLengths.{PlaneLengths}
+use Rattle.split_number.specs.declared.Views.{Views}
+use Rattle.split_number.proofs.Exactly.{small-exactly, split-5-plainly, split-0-exactly}
 use Rattle.split.specs.Split.{Planes, lengthsOf, mainSample, auxSample, viewShort, viewAfter, splitNumberOf, splitAnswerOf, splitBuffersOf, SplitEnds}
-use Rattle.split.proofs.Exactly.{small-exactly, split-5-plainly, split-0-exactly}
 
 -- of `split`, and of `split_v1` and `split_v2` where t is V1 or V2
 pub split-unique : (t : Layout) (z : Size) (p m a : Planes) (r q : Views) (rs qs : List (List ℕ)) → SplitEnds t z p m a r rs → SplitEnds t z p m a q qs → (r ≡ q) × (rs ≡ qs)

@@ -1,4 +1,4 @@
--- `split::too_large` meets its contract: the stride decides, and the rows where it is not too large.
+-- `split_number::too_large` meets its contract: the stride decides, and the rows where it is not too large.
 -- Assumes nothing.
 use borrow.Author.Needs.{needs}
 use native.Mathlib.Omega.{arith}
@@ -8,9 +8,9 @@ use lib.Dec.{ltb}
 use borrow.Author.Tests.{lt-ltb, le-ltb}
 use Rattle.lent.proofs.Bools.{or-left}
 use Rattle.picture.specs.Sizes.{strideOf, rowsOf}
-use Rattle.split.specs.Split.{tooLarge}
-use Rattle.split.proofs.too_large.Statement.{statement}
-use Rattle.split.proofs.too_large.Tie as tie
+use Rattle.split_number.specs.Number.{tooLarge}
+use Rattle.split_number.proofs.too_large.Statement.{statement}
+use Rattle.split_number.proofs.too_large.Tie as tie
 
 stride-requires : tie.Need-stride-requires
 stride-requires c κs = search needs

@@ -12,8 +12,8 @@ use Rattle.lent.proofs.Bools.{either, or-left, or-right}
 use Rattle.lent.proofs.Refusal.{refusal-exactly, refusal-none}
 use Rattle.picture.specs.declared.Size.{Size}
 use Rattle.picture.specs.Sizes.{strideOf, rowsOf, planesShort}
-use Rattle.split.specs.declared.PlaneLengths.{PlaneLengths}
-use Rattle.split.specs.Split.{tooLarge, viewShort, splitNumberOf}
+use Rattle.split_number.specs.declared.PlaneLengths.{PlaneLengths}
+use Rattle.split_number.specs.Number.{tooLarge, viewShort, splitNumberOf}
 
 -- the three tests, in order
 module _ (z : Size) (p m a : PlaneLengths) where

@@ -1,4 +1,4 @@
--- `split::view_short` meets its contract: the first short plane decides, and the third where the others are not.
+-- `split_number::view_short` meets its contract: the first short plane decides, and the third where the others are not.
 -- Assumes nothing.
 use borrow.Author.Needs.{needs}
 use Prim.Native.Nat.{_/_}
@@ -6,9 +6,9 @@ use mathlib.Core.Path.{_≡_, sym, _∙_}
 use mathlib.Core.Bool.{false}
 use Rattle.lent.specs.Sizes.{tooShort}
 use Rattle.picture.specs.Sizes.{strideOf, rowsOf}
-use Rattle.split.proofs.Calls.{short-1, short-2, short-3}
-use Rattle.split.proofs.view_short.Statement.{statement}
-use Rattle.split.proofs.view_short.Tie as tie
+use Rattle.split_number.proofs.Short.{short-1, short-2, short-3}
+use Rattle.split_number.proofs.view_short.Statement.{statement}
+use Rattle.split_number.proofs.view_short.Tie as tie
 
 -- stride and rows are the size's, in each test
 luma : (c : tie.After-rows) → let a = c .before .before .args in tooShort (strideOf (a .size)) (rowsOf (a .size)) (a .n .y) ≡ tooShort (c .before .stride .result) (c .rows .result) (a .n .y)

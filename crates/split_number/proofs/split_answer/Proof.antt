@@ -1,13 +1,13 @@
--- `split::split_answer` meets its contract: a refusal has no sizes, and otherwise stride and rows fit 16 bits.
+-- `split_number::split_answer` meets its contract: a refusal has no sizes, and otherwise stride and rows fit 16 bits.
 -- Assumes nothing.
 use borrow.Author.Needs.{needs}
 use Prim.Native.Nat.{_/_}
 use native.Mathlib.Omega.{arith}
 use mathlib.Core.Path.{refl}
 use borrow.Author.Tests.{eq-eqb, ne-eqb}
-use Rattle.split.proofs.Exactly.{small-exactly}
-use Rattle.split.proofs.split_answer.Statement.{statement}
-use Rattle.split.proofs.split_answer.Tie as tie
+use Rattle.split_number.proofs.Exactly.{small-exactly}
+use Rattle.split_number.proofs.split_answer.Statement.{statement}
+use Rattle.split_number.proofs.split_answer.Tie as tie
 
 returns : tie.Need-returns
 returns c = rw (ne-eqb (c .before .args .number) 0 (c .if1 .taken)) refl

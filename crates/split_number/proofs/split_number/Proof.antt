@@ -1,4 +1,4 @@
--- `split::split_number` meets its contract: each answer is given exactly when the table says.
+-- `split_number::split_number` meets its contract: each answer is given exactly when the table says.
 -- Assumes nothing.
 use borrow.Author.Needs.{needs}
 use mathlib.Core.Path.{_≡_, sym, _∙_}
@@ -6,10 +6,10 @@ use mathlib.Core.Bool.{false}
 use Rattle.lent.proofs.Bools.{or-left, or-right}
 use Rattle.lent.proofs.Exactly.{nor}
 use Rattle.picture.specs.Sizes.{planesShort}
-use Rattle.split.specs.Split.{tooLarge, viewShort}
-use Rattle.split.proofs.Exactly.{split-1-exactly, split-5-exactly, split-6-exactly, split-0-exactly}
-use Rattle.split.proofs.split_number.Statement.{statement}
-use Rattle.split.proofs.split_number.Tie as tie
+use Rattle.split_number.specs.Number.{tooLarge, viewShort}
+use Rattle.split_number.proofs.Exactly.{split-1-exactly, split-5-exactly, split-6-exactly, split-0-exactly}
+use Rattle.split_number.proofs.split_number.Statement.{statement}
+use Rattle.split_number.proofs.split_number.Tie as tie
 
 -- what each test that was passed says
 long : (e : tie.Else1) → let a = e .before .before .args in planesShort (a .size) (a .from .y) (a .from .u) (a .from .v) ≡ false

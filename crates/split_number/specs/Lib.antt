@@ -1,0 +1,2 @@
+-- What number a split answers, and with what sizes.
+pub mod Number
