@@ -1,8 +1,8 @@
 // Views: 3 and 4, in this order, when a view is made and when a row of it is read.
 // A line has the number and the count of `new`, then for one row of each plane the number, whether it is present, its start and its
 // length; then whether the planes are as they were.
-use view::Row;
 use view::View;
+use view_rows::Row;
 ghost use Prim.Native.Nat.{_≤_, _<_};
 ghost use lib.ListN.{length};
 
@@ -35,18 +35,18 @@ fn answers<'a>(name: &[u8], w: View, y: &'a [u8], u: &'a [u8], v: &'a [u8], row:
     say::answer(name, view::new(w, y, u, v));
     row_answer(
         b", y ",
-        view::luma_row_answer(w, y, u, v, row),
-        view::luma_row(w, y, u, v, row),
+        view_rows::luma_row_answer(w, y, u, v, row),
+        view_rows::luma_row(w, y, u, v, row),
     );
     row_answer(
         b", u ",
-        view::u_row_answer(w, y, u, v, row),
-        view::u_row(w, y, u, v, row),
+        view_rows::u_row_answer(w, y, u, v, row),
+        view_rows::u_row(w, y, u, v, row),
     );
     row_answer(
         b", v ",
-        view::v_row_answer(w, y, u, v, row),
-        view::v_row(w, y, u, v, row),
+        view_rows::v_row_answer(w, y, u, v, row),
+        view_rows::v_row(w, y, u, v, row),
     );
 }
 

@@ -4,8 +4,8 @@
 // stride in eight. The planes' bytes are made from the seed.
 use libc::STDIN_FILENO;
 use libc::STDOUT_FILENO;
-use view::Row;
 use view::View;
+use view_rows::Row;
 ghost use Prim.Native.Nat.{_+_, _≤_, _<_};
 ghost use lib.ListN.{length};
 
@@ -53,21 +53,21 @@ fn row_word(r: Row, part: &[u8]) {
 fn row<'a>(plane: u8, w: View, y: &'a [u8], u: &'a [u8], v: &'a [u8], row: usize) {
     if plane == 0 {
         row_word(
-            view::luma_row_answer(w, y, u, v, row),
-            view::luma_row(w, y, u, v, row),
+            view_rows::luma_row_answer(w, y, u, v, row),
+            view_rows::luma_row(w, y, u, v, row),
         );
         return;
     }
     if plane == 1 {
         row_word(
-            view::u_row_answer(w, y, u, v, row),
-            view::u_row(w, y, u, v, row),
+            view_rows::u_row_answer(w, y, u, v, row),
+            view_rows::u_row(w, y, u, v, row),
         );
         return;
     }
     row_word(
-        view::v_row_answer(w, y, u, v, row),
-        view::v_row(w, y, u, v, row),
+        view_rows::v_row_answer(w, y, u, v, row),
+        view_rows::v_row(w, y, u, v, row),
     );
 }
 

@@ -1,5 +1,4 @@
--- The numbers, exactly when; the rows; views that are alike; the one way in which each call ends.
+-- The numbers, exactly when; where rows start; the one way in which a view is made.
 pub mod Exactly
 pub mod Rows
-pub mod Alike
 pub mod Unique

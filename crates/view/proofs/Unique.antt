@@ -1,4 +1,4 @@
--- Each public call ends in one way: two answers, or two parts, that meet its contract on equal inputs are equal. Each is one line.
+-- A view is made in one way: two answers that meet the contract of `new` on equal inputs are equal.
 -- Assumes nothing.
 use Prim.Native.Nat.{ℕ}
 use mathlib.Core.Path.{_≡_}
@@ -7,12 +7,9 @@ use lib.ListN.{length}
 use denote.Ref.{RefT, now}
 use Rattle.lent.specs.declared.Answer.{Answer}
 use Rattle.lent.specs.Outcome.{Outcome, answerOf}
-use Rattle.lent.proofs.Outcome.{outcome-unique, ownPart-unique}
+use Rattle.lent.proofs.Outcome.{outcome-unique}
 use Rattle.view.specs.declared.View.{View}
-use Rattle.view.specs.declared.Plane.{Plane}
-use Rattle.view.specs.declared.Row.{Row}
 use Rattle.view.specs.View.{viewNumberOf}
-use Rattle.view.specs.Rows.{rowAnswerOf, RowPart}
 
 module _ (w : View) (y u v : RefT (List ℕ)) where
   abbrev number : ℕ
@@ -20,12 +17,3 @@ module _ (w : View) (y u v : RefT (List ℕ)) where
 
   pub new-unique : (r q : Answer) (rs qs : List (List ℕ)) → Outcome (answerOf number 0) [] r rs → Outcome (answerOf number 0) [] q qs → (r ≡ q) × (rs ≡ qs)
   new-unique = outcome-unique (λ (n : ℕ). answerOf n 0) (λ n. []) number
-
-  -- luma_row, u_row and v_row: two parts of one block, at one place, with the same bytes
-  pub row-unique : (p : Plane) (plane : RefT (List ℕ)) (row : ℕ) (r q : RefT (List ℕ)) → RowPart number p row plane r → RowPart number p row plane q
-      → (r .ptr .0 ≡ q .ptr .0) × (r .ptr .1 ≡ q .ptr .1) × (now r ≡ now q)
-  row-unique p plane row r q x z = ownPart-unique x z
-
-  -- luma_row_answer, u_row_answer and v_row_answer
-  pub row-answer-unique : (p : Plane) (row : ℕ) (r q : Row) (rs qs : List (List ℕ)) → Outcome (rowAnswerOf number p row) [] r rs → Outcome (rowAnswerOf number p row) [] q qs → (r ≡ q) × (rs ≡ qs)
-  row-answer-unique p = outcome-unique (rowAnswerOf number p) (λ n. [])

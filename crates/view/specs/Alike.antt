@@ -3,8 +3,6 @@
 --
 --   SameSamples p xs q ys                two planes of p's width and height, of any strides, agree on every visible sample
 --   Alike w y u v w′ y′ u′ v′            two views of equal width and height, of any strides, whose planes agree so
---   SameRow n p xs m q ys r              row r of a plane xs of a view answered with n, and of a plane ys of one answered with m: equal
---                                        number, presence, length and bytes
 use Prim.Native.Nat.{ℕ, _<_}
 use mathlib.Core.Path.{_≡_}
 use mathlib.Core.List.{List}
@@ -12,7 +10,6 @@ use Rattle.lent.specs.Samples.{sample}
 use Rattle.view.specs.declared.View.{View}
 use Rattle.view.specs.declared.Plane.{Plane}
 use Rattle.view.specs.View.{lumaOf, chromaOf}
-use Rattle.view.specs.Rows.{findRowOf, bytesIn, rowAnswerOf}
 
 abbrev pub SameSamples : Plane → List ℕ → Plane → List ℕ → Type 0
 SameSamples p xs q ys = (r c : ℕ) → r < p .height → c < p .width → sample xs (p .stride) r c ≡ sample ys (q .stride) r c
@@ -23,9 +20,3 @@ pub record Alike (w : View) (y u v : List ℕ) (w′ : View) (y′ u′ v′ : L
   pub y-same : SameSamples (lumaOf w) y (lumaOf w′) y′
   pub u-same : SameSamples (chromaOf w) u (chromaOf w′) u′
   pub v-same : SameSamples (chromaOf w) v (chromaOf w′) v′
-
-pub record SameRow (n : ℕ) (p : Plane) (xs : List ℕ) (m : ℕ) (q : Plane) (ys : List ℕ) (r : ℕ) : Type 0 where
-  pub number : rowAnswerOf n p r .number ≡ rowAnswerOf m q r .number
-  pub present : rowAnswerOf n p r .present ≡ rowAnswerOf m q r .present
-  pub length : rowAnswerOf n p r .length ≡ rowAnswerOf m q r .length
-  pub bytes : bytesIn (findRowOf n p r) (p .width) xs ≡ bytesIn (findRowOf m q r) (q .width) ys

@@ -1,4 +1,4 @@
--- A view's number, its rows, and which views are alike.
+-- A view's number, where its rows start, and which views are alike.
 pub mod View
 pub mod Rows
 pub mod Alike

@@ -1,10 +1,10 @@
--- `view::v_row` meets its contract: the view's number and the plane's sizes, handed to `row_part`.
+-- `view_rows::v_row` meets its contract: the view's number and the plane's sizes, handed to `row_part`.
 -- Assumes nothing.
 use borrow.Author.Needs.{needs}
 use Rattle.view.proofs.Exactly.{v-fits}
-use Rattle.view.proofs.Rows.{row-asks, row-is}
-use Rattle.view.proofs.v_row.Statement.{statement}
-use Rattle.view.proofs.v_row.Tie as tie
+use Rattle.view_rows.proofs.Rows.{row-asks, row-is}
+use Rattle.view_rows.proofs.v_row.Statement.{statement}
+use Rattle.view_rows.proofs.v_row.Tie as tie
 
 view-number-requires : tie.Need-view-number-requires
 view-number-requires c κs = search needs

@@ -1,10 +1,10 @@
--- `view::u_row_answer` meets its contract: the view's number and the plane's sizes, handed to `row_answer`.
+-- `view_rows::u_row_answer` meets its contract: the view's number and the plane's sizes, handed to `row_answer`.
 -- Assumes nothing.
 use borrow.Author.Needs.{needs}
 use Rattle.view.proofs.Exactly.{u-fits}
-use Rattle.view.proofs.Rows.{row-asks, answer-is}
-use Rattle.view.proofs.u_row_answer.Statement.{statement}
-use Rattle.view.proofs.u_row_answer.Tie as tie
+use Rattle.view_rows.proofs.Rows.{row-asks, answer-is}
+use Rattle.view_rows.proofs.u_row_answer.Statement.{statement}
+use Rattle.view_rows.proofs.u_row_answer.Tie as tie
 
 view-number-requires : tie.Need-view-number-requires
 view-number-requires c κs = search needs

@@ -1,4 +1,4 @@
--- `view::row_part` meets its contract: the part is cut from the plane at the start that was found, so that block, offset and bytes are
+-- `view_rows::row_part` meets its contract: the part is cut from the plane at the start that was found, so that block, offset and bytes are
 -- those of its case. It lies in the plane since its whole stride does.
 -- Assumes nothing.
 use borrow.Author.Needs.{needs}
@@ -8,11 +8,11 @@ use native.Mathlib.Omega.{arith}
 use mathlib.Core.Path.{refl, sym, ap, _∙_}
 use lib.ListN.{length, take, drop}
 use denote.Ref.{now}
 use Rattle.view.specs.declared.RowStart.{RowStart}
-use Rattle.view.specs.Rows.{startIn, bytesIn}
-use Rattle.view.proofs.Rows.{found-fits}
-use Rattle.view.proofs.row_part.Statement.{statement}
-use Rattle.view.proofs.row_part.Tie as tie
+use Rattle.view_rows.specs.Rows.{startIn, bytesIn}
+use Rattle.view_rows.proofs.Rows.{found-fits}
+use Rattle.view_rows.proofs.row_part.Statement.{statement}
+use Rattle.view_rows.proofs.row_part.Tie as tie
 
 -- the row that was found ends in the plane
 within : (c : tie.After-struct-known) → (c .before .before .start .given .0 .0 + c .before .before .before .before .before .before .args .p .stride ≤ length (now (c .before .before .before .before .before .before .args .plane)))

@@ -10,15 +10,17 @@ use lib.ListN.{length}
 use lib.Seq.{ext-getD}
 use Rattle.lent.specs.Sizes.{halfUp}
 use Rattle.lent.proofs.Bools.{split}
 use Rattle.view.specs.declared.View.{View}
 use Rattle.view.specs.declared.Plane.{Plane}
 use Rattle.view.specs.declared.RowStart.{RowStart}
 use Rattle.view.specs.declared.RowStart.the-variants.{At, Absent}
 use Rattle.view.specs.View.{lumaOf, chromaOf, viewNumberOf, PlaneFits}
-use Rattle.view.specs.Rows.{findRowOf, presentIn, lengthIn, bytesIn}
-use Rattle.view.specs.Alike.{SameSamples, Alike, SameRow}
+use Rattle.view_rows.specs.Rows.{findRowOf, presentIn, lengthIn, bytesIn}
+use Rattle.view.specs.Alike.{SameSamples, Alike}
+use Rattle.view_rows.specs.Alike.{SameRow}
 use Rattle.view.proofs.Exactly.{luma-fits, u-fits, v-fits}
-use Rattle.view.proofs.Rows.{rowStart-holds, rowStart-none, findRow-accepted, row-length, row-sample}
+use Rattle.view.proofs.Rows.{rowStart-holds, rowStart-none}
+use Rattle.view_rows.proofs.Rows.{findRow-accepted, row-length, row-sample}
 
 module _ {n m : ℕ} (p q : Plane) (xs ys : List ℕ) (done : n ≡ 0) (done′ : m ≡ 0) (wide : p .width ≡ q .width) (high : p .height ≡ q .height)
     (fits : PlaneFits p (length xs)) (fits′ : PlaneFits q (length ys)) (same : SameSamples p xs q ys) (r : ℕ) where

@@ -1,10 +1,10 @@
--- `view::luma_row` meets its contract: the view's number and the plane's sizes, handed to `row_part`.
+-- `view_rows::luma_row` meets its contract: the view's number and the plane's sizes, handed to `row_part`.
 -- Assumes nothing.
 use borrow.Author.Needs.{needs}
 use Rattle.view.proofs.Exactly.{luma-fits}
-use Rattle.view.proofs.Rows.{row-asks, row-is}
-use Rattle.view.proofs.luma_row.Statement.{statement}
-use Rattle.view.proofs.luma_row.Tie as tie
+use Rattle.view_rows.proofs.Rows.{row-asks, row-is}
+use Rattle.view_rows.proofs.luma_row.Statement.{statement}
+use Rattle.view_rows.proofs.luma_row.Tie as tie
 
 view-number-requires : tie.Need-view-number-requires
 view-number-requires c κs = search needs

@@ -1,11 +1,11 @@
--- `view::row_answer` meets its contract: each case of the start that was found has the values that `rowIn` gives it.
+-- `view_rows::row_answer` meets its contract: each case of the start that was found has the values that `rowIn` gives it.
 -- Assumes nothing.
 use borrow.Author.Needs.{needs}
 use mathlib.Core.Path.{sym, ap, _∙_}
 use Rattle.view.specs.declared.RowStart.{RowStart}
-use Rattle.view.specs.Rows.{rowIn}
-use Rattle.view.proofs.row_answer.Statement.{statement}
-use Rattle.view.proofs.row_answer.Tie as tie
+use Rattle.view_rows.specs.Rows.{rowIn}
+use Rattle.view_rows.proofs.row_answer.Statement.{statement}
+use Rattle.view_rows.proofs.row_answer.Tie as tie
 
 find-row-requires : tie.Need-find-row-requires
 find-row-requires c κs = search needs

@@ -1,9 +1,9 @@
--- `view::find_row` meets its contract: a refused view has no row, an accepted one holds all of its plane's rows.
+-- `view_rows::find_row` meets its contract: a refused view has no row, an accepted one holds all of its plane's rows.
 -- Assumes nothing.
 use mathlib.Core.Path.{sym, _∙_}
-use Rattle.view.proofs.Rows.{findRow-accepted, findRow-refused}
-use Rattle.view.proofs.find_row.Statement.{statement}
-use Rattle.view.proofs.find_row.Tie as tie
+use Rattle.view_rows.proofs.Rows.{findRow-accepted, findRow-refused}
+use Rattle.view_rows.proofs.find_row.Statement.{statement}
+use Rattle.view_rows.proofs.find_row.Tie as tie
 
 returns : tie.Need-returns
 returns c = sym (findRow-refused _ _ _ (c .if1 .taken))
