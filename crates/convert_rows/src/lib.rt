@@ -10,7 +10,7 @@ ghost use Rattle.convert_rows.specs.Rules.{cornersAt};
 ghost use Rattle.convert_rows.specs.Fits.{Inside, BlockInside};
 
 // The pixel with luma at `at` and chroma at c, as they stand.
-pub fn plain(y: &[u8], u: &[u8], v: &[u8], at: usize, c: usize) -> [u8; 4]
+pub fn plain(y: &[u8], u: &[u8], v: &[u8], at: usize, c: usize) -> colour::Rgba
     requires { ⌜ Inside (length (now y)) (length (now u)) (length (now v)) at c ⌝ }
     ensures { λ p. ⌜ p ≡ reverseOf (getD (now (y .entry)) at 0) (getD (now (u .entry)) c 0) (getD (now (v .entry)) c 0) ⌝ }
 {
@@ -28,7 +28,7 @@ fn smoothed(p: &[u8], at: usize, below: usize) -> u8
 }
 
 // The pixel at `at`, its chroma filtered.
-pub fn smooth(y: &[u8], u: &[u8], v: &[u8], at: usize, below: usize) -> [u8; 4]
+pub fn smooth(y: &[u8], u: &[u8], v: &[u8], at: usize, below: usize) -> colour::Rgba
     requires { ⌜ BlockInside (length (now y)) (length (now u)) (length (now v)) at below ⌝ }
     ensures { λ p. ⌜ p ≡ reverseOf (getD (now (y .entry)) at 0) (filterOf (cornersAt (now (u .entry)) at below)) (filterOf (cornersAt (now (v .entry)) at below)) ⌝ }
 {
