@@ -87,7 +87,7 @@ impl Bench {
     }
 }
 
-/// A call of the library on two inputs, to weigh the times against each other.
+/// A call of the library on two inputs, or on one and plain copies beside it, to weigh the times against each other.
 pub struct Weighing {
     pub name: &'static str,
     /// The first input against the second, in words.
@@ -97,7 +97,7 @@ pub struct Weighing {
     pub passes: fn() -> [Pass; 2],
 }
 
-/// A call of the library over so many pixels. It answers a sum of what it was answered.
+/// A call, or copies, over so many pixels. It answers a sum of what it was answered.
 pub struct Pass {
     pub pixels: u64,
     pub run: Box<dyn FnMut() -> u64>,

@@ -29,7 +29,7 @@ fn main() -> ExitCode {
     println!("allocations: the original's times include its own; the library makes none. Where that matters, the row says so");
     let wanted = |name: &str| only.as_ref().is_none_or(|only| only == name);
     print!("{}", aligned(&beside_the_original(wanted)));
-    println!("\nthe library on one input against itself on another, in nanoseconds a pixel; ratio: first / second");
+    println!("\nthe library on one input against itself on another, or against plain copies, in nanoseconds a pixel; ratio: first / second");
     print!("{}", aligned(&against_itself(wanted)));
     ExitCode::SUCCESS
 }

@@ -92,6 +92,7 @@ pub const WEIGHINGS: &[Weighing] = &[
     from_rgba::SCALE,
     new::SCALE,
     apply::MAIN_SCALE,
+    apply::MAIN_COPIES,
     apply::V1_SCALE,
     apply::V2_SCALE,
     split::V1_SCALE,

@@ -61,6 +61,14 @@ pub const V2_SMALL_RECTS_BENCH: Bench = Bench {
 pub const MAIN_SCALE: Weighing =
     Weighing { name: "apply_main_view", input: SCALES, bound: 2.0, passes: || scaled(&MAIN) };
 
+/// What is left to gain in the main view: the second pass moves as many bytes from and to as many, by copies alone.
+pub const MAIN_COPIES: Weighing = Weighing {
+    name: "apply_main_view",
+    input: "1920x1080 against copies of as many bytes",
+    bound: 1.2,
+    passes: || [pass(&MAIN, 1920, 1080, vec![0, 0, 1920, 1080]), copies(1920, 1080)],
+};
+
 pub const V1_SCALE: Weighing =
     Weighing { name: "apply_auxiliary_v1", input: SCALES, bound: 2.0, passes: || scaled(&V1) };
 
@@ -120,6 +128,28 @@ fn pass(call: &'static Call, width: u16, height: u16, list: Vec<u16>) -> Pass {
     Pass::new(u64::from(width) * u64::from(height), move || {
         let number = (call.ours)(sizes.size, planes.lent(), black_box(&list), black_box(view.view()));
         u64::from(number) + planes.sample()
+    })
+}
+
+/// The rows of a view copied into planes: a luma row as it is, a chroma row into each half of two rows. The sizes are even, and the width
+/// is a stride.
+fn copies(width: u16, height: u16) -> Pass {
+    let noise = Noise::new(LONGEST);
+    let owned = Owned::new(&noise, width, height);
+    let mut planes = Planes::new(&Sizes::exact(width, height), &noise, 1);
+    let (stride, half) = (usize::from(width), usize::from(width / 2));
+    Pass::new(u64::from(width) * u64::from(height), move || {
+        let view = black_box(owned.view());
+        let [y, u, v] = planes.lent();
+        for (row, from) in y.chunks_exact_mut(stride).zip(view.y.chunks_exact(stride)) {
+            row.copy_from_slice(from);
+        }
+        for (plane, from) in [(u, view.u), (v, view.v)] {
+            for (rows, from) in plane.chunks_exact_mut(2 * stride).zip(from.chunks_exact(half)) {
+                rows.chunks_exact_mut(half).for_each(|part| part.copy_from_slice(from));
+            }
+        }
+        planes.sample()
     })
 }
 

@@ -14,8 +14,8 @@ use crate::ours;
 use crate::run::Run;
 
 pub use self::bench::{
-    MAIN_BENCH, MAIN_RECTS_BENCH, MAIN_SCALE, V1_BENCH, V1_RECTS_BENCH, V1_SCALE, V1_SMALL_RECTS_BENCH, V2_BENCH,
-    V2_RECTS_BENCH, V2_SCALE, V2_SMALL_RECTS_BENCH,
+    MAIN_BENCH, MAIN_COPIES, MAIN_RECTS_BENCH, MAIN_SCALE, V1_BENCH, V1_RECTS_BENCH, V1_SCALE, V1_SMALL_RECTS_BENCH,
+    V2_BENCH, V2_RECTS_BENCH, V2_SCALE, V2_SMALL_RECTS_BENCH,
 };
 
 const MAIN: Call = Call { ours: ours::apply_main_view, theirs: Yuv444Frame::apply_main_view };
