@@ -12,7 +12,7 @@ use Rattle.picture.specs.Sizes.{strideOf}
 use Rattle.view.specs.declared.View.{View}
 use Rattle.layout.specs.declared.Layout.{Layout}
 use Rattle.layout.specs.declared.Layout.the-variants.{V1, V2}
-use Rattle.rects.specs.Number.{mainNumberOf}
+use Rattle.rects.specs.Number.{lentNumberOf}
 use Rattle.combine.specs.Main.{mainBuffersOf, MainOutcome}
 use Rattle.auxiliary.specs.Auxiliary.{auxBuffersOf, AuxOutcome}
 use Rattle.split_number.specs.declared.Views.{Views}
@@ -73,12 +73,12 @@ module _ (t : Layout) (z : Size) (rects : List ℕ) (p m a q : Planes) where
     mid-is =
         ap threeOf
         (first .buffers
-        ∙ (λ i. mainBuffersOf (mainNumberOf z (size-is i) rects (main-is i .y) (main-is i .u) (main-is i .v) (q .y) (q .u) (q .v)) z (size-is i) rects (main-is i .y) (main-is i .u) (main-is i .v) (q .y) (q .u) (q .v))
+        ∙ (λ i. mainBuffersOf (lentNumberOf z (size-is i) rects (main-is i .y) (main-is i .u) (main-is i .v) (q .y) (q .u) (q .v)) z (size-is i) rects (main-is i .y) (main-is i .u) (main-is i .v) (q .y) (q .u) (q .v))
         ∙ ap (λ (n : ℕ). mainBuffersOf n z (viewOf z) rects (mainViewOf z p m .y) (mainViewOf z p m .u) (mainViewOf z p m .v) (q .y) (q .u) (q .v)) (zeros .1 .0))
 
     -- the auxiliary view's number, as the call worked it out
-    last-zero : mainNumberOf z w rects (a′ .y) (a′ .u) (a′ .v) (mid .y) (mid .u) (mid .v) ≡ 0
-    last-zero = (λ i. mainNumberOf z (size-is i) rects (aux-is i .y) (aux-is i .u) (aux-is i .v) (mid-is i .y) (mid-is i .u) (mid-is i .v)) ∙ zeros .1 .1
+    last-zero : lentNumberOf z w rects (a′ .y) (a′ .u) (a′ .v) (mid .y) (mid .u) (mid .v) ≡ 0
+    last-zero = (λ i. lentNumberOf z (size-is i) rects (aux-is i .y) (aux-is i .u) (aux-is i .v) (mid-is i .y) (mid-is i .u) (mid-is i .v)) ∙ zeros .1 .1
 
     after-is : x ≡ throughOf t z rects p m a q
     unfolding throughOf

@@ -30,7 +30,7 @@ use Rattle.picture.specs.declared.Size.{Size}
 use Rattle.picture.specs.Sizes.{strideOf, rowsOf, planesShort, PlanesFit}
 use Rattle.view.specs.declared.View.{View}
 use Rattle.layout.specs.declared.Layout.{Layout}
-use Rattle.rects.specs.Number.{notFours, mainNumberOf}
+use Rattle.rects.specs.Number.{notFours, lentNumberOf}
 use Rattle.combine.specs.Main.{mainBuffersOf}
 use Rattle.auxiliary.specs.Auxiliary.{auxBuffersOf}
 use Rattle.split_number.specs.declared.PlaneLengths.{PlaneLengths}
@@ -75,7 +75,7 @@ abbrev pub firstOf : ℕ → ℕ → ℕ
 firstOf n k = cond (eqb n 0) k n
 
 abbrev pub applyNumberOn : Size → List ℕ → Planes → Planes → ℕ
-applyNumberOn z rects v q = mainNumberOf z (viewOf z) rects (v .y) (v .u) (v .v) (q .y) (q .u) (q .v)
+applyNumberOn z rects v q = lentNumberOf z (viewOf z) rects (v .y) (v .u) (v .v) (q .y) (q .u) (q .v)
 
 unfoldable pub throughNumberOf : Layout → Size → List ℕ → Planes → Planes → Planes → Planes → ℕ
 throughNumberOf t z rects p m a q =

@@ -7,7 +7,7 @@ use Rattle.view.specs.declared.View.{View}
 use Rattle.layout.specs.declared.Chroma.the-variants.{CU, CV}
 use Rattle.layout.specs.declared.Layout.{Layout}
 use Rattle.lent.proofs.Ends.{answer-none, lent-refused, lent-done}
-use Rattle.rects.specs.Number.{mainNumberOf}
+use Rattle.rects.specs.Number.{lentNumberOf}
 use Rattle.auxiliary.specs.Auxiliary.{auxAfter, AuxOutcome}
 
 module _ (t : Layout) (z : Size) (w : View) (rects vy vu vv y u v : List ℕ) where
@@ -17,13 +17,13 @@ module _ (t : Layout) (z : Size) (w : View) (rects vy vu vv y u v : List ℕ) wh
   abbrev after-v : List ℕ
   after-v = auxAfter t CV z w rects vy vu vv v
 
-  pub aux-refused : {n : ℕ} → n ≡ mainNumberOf z w rects vy vu vv y u v → (n ≡ 0 → ⊥)
+  pub aux-refused : {n : ℕ} → n ≡ lentNumberOf z w rects vy vu vv y u v → (n ≡ 0 → ⊥)
       → AuxOutcome t z w rects vy vu vv y u v (record { number = n; count = 0 }) (y ∷ u ∷ v ∷ [])
   aux-refused is f =
-      let not-zero : mainNumberOf z w rects vy vu vv y u v ≡ 0 → ⊥ = λ e. f (is ∙ e) in
+      let not-zero : lentNumberOf z w rects vy vu vv y u v ≡ 0 → ⊥ = λ e. f (is ∙ e) in
       record { answer = answer-none is; buffers = λ i. y ∷ lent-refused _ u after-u not-zero i ∷ lent-refused _ v after-v not-zero i ∷ [] }
 
-  pub aux-done : {u′ v′ : List ℕ} → mainNumberOf z w rects vy vu vv y u v ≡ 0 → u′ ≡ after-u → v′ ≡ after-v
+  pub aux-done : {u′ v′ : List ℕ} → lentNumberOf z w rects vy vu vv y u v ≡ 0 → u′ ≡ after-u → v′ ≡ after-v
       → AuxOutcome t z w rects vy vu vv y u v (record { number = 0; count = 0 }) (y ∷ u′ ∷ v′ ∷ [])
   aux-done is a b = record {
     answer = answer-none (sym is);

@@ -24,10 +24,9 @@ use Rattle.layout.specs.Maps.{Part, PY, PU, PV, Spot, place, maps}
 use Rattle.layout.specs.Exists.{side, present, fed}
 use Rattle.layout.proofs.Exists.{leftOut-facts, present-facts}
 use Rattle.layout.proofs.Pairs.{fed-facts}
-use Rattle.rects.specs.Rects.{rectAtOf, nth, taken, chromaBlockAreaOf, inArea}
+use Rattle.rects.specs.Rects.{rectAtOf, nth, taken, chromaBlockAreaOf, inArea, NoArea}
 use Rattle.rects.proofs.Rects.{AllIn, taken-facts, list-same, list-none, list-empty}
-use Rattle.combine.proofs.MainLaws.{NoArea}
-use Rattle.rects.specs.Number.{mainNumberOf}
+use Rattle.rects.specs.Number.{lentNumberOf}
 use Rattle.auxiliary_rows.specs.Rows.{partSample, viewSample, auxSource}
 use Rattle.auxiliary_rows.proofs.Columns.{painted-join}
 use Rattle.auxiliary.specs.Auxiliary.{auxIn, auxRule, auxAfter, auxBuffersOf, AuxOutcome}
@@ -37,7 +36,7 @@ use Rattle.auxiliary.proofs.Taken.{auxIn-facts}
 
 module _ (t : Layout) (z : Size) (w : View) (rects vy vu vv y u v : List ℕ) where
   pub aux-unique : (r q : Answer) (rs qs : List (List ℕ)) → AuxOutcome t z w rects vy vu vv y u v r rs → AuxOutcome t z w rects vy vu vv y u v q qs → (r ≡ q) × (rs ≡ qs)
-  aux-unique = outcome-unique (λ (n : ℕ). answerOf n 0) (λ n. auxBuffersOf n t z w rects vy vu vv y u v) (mainNumberOf z w rects vy vu vv y u v)
+  aux-unique = outcome-unique (λ (n : ℕ). answerOf n 0) (λ n. auxBuffersOf n t z w rects vy vu vv y u v) (lentNumberOf z w rects vy vu vv y u v)
 
   -- luma is never touched by an auxiliary view, refused or done
   pub aux-luma : (r : Answer) (y′ u′ v′ : List ℕ) → AuxOutcome t z w rects vy vu vv y u v r (y′ ∷ u′ ∷ v′ ∷ []) → y′ ≡ y
@@ -73,7 +72,7 @@ module _ (t : Layout) (k : Chroma) (z : Size) (w : View) (vy vu vv plane : List 
   aux-empty-list = sym (list-empty _ _ (auxRule t z w) _ plane)
 
   -- a rectangle whose widened area is empty changes nothing: nor does a list of such
-  pub aux-empty-areas : (rects : List ℕ) → ((i : ℕ) → i < length rects / 4 → let q = rectAtOf rects i in NoArea z w (q .left) (q .top) (q .right) (q .bottom))
+  pub aux-empty-areas : (rects : List ℕ) → ((i : ℕ) → i < length rects / 4 → let q = rectAtOf rects i in NoArea z (q .left) (q .top) (q .right) (q .bottom))
       → auxAfter t k z w rects vy vu vv plane ≡ plane
   unfolding nth
   aux-empty-areas rects empty =
@@ -111,7 +110,7 @@ module _ (t : Layout) {w w′ : View} {vy vu vv vy′ vu′ vv′ : List ℕ} (a
 
   -- and accepted calls end alike
   pub aux-ends-alike : (z : Size) (rects y u v : List ℕ) (r r′ : Answer) (rs rs′ : List (List ℕ))
-      → mainNumberOf z w rects vy vu vv y u v ≡ 0 → mainNumberOf z w′ rects vy′ vu′ vv′ y u v ≡ 0
+      → lentNumberOf z w rects vy vu vv y u v ≡ 0 → lentNumberOf z w′ rects vy′ vu′ vv′ y u v ≡ 0
       → AuxOutcome t z w rects vy vu vv y u v r rs → AuxOutcome t z w′ rects vy′ vu′ vv′ y u v r′ rs′ → (r ≡ r′) × (rs ≡ rs′)
   aux-ends-alike z rects y u v r r′ rs rs′ n n′ o o′ =
       let same = n ∙ sym n′ in (

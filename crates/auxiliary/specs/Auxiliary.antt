@@ -6,7 +6,7 @@
 --   auxAfter t k z w rects vy vu vv plane      the chroma plane k after an accepted call: each sample that some rectangle takes is the view's
 --                                 sample at its spot (`auxSource`), and every other byte is as before
 --   AuxOutcome ...                how the call ends, refusals included: its number is that of the main view's call on the same buffers
---                                 (`mainNumberOf`: 1, 7, 3, 4), and Y's bytes are as they were in every case
+--                                 (`lentNumberOf`: 1, 7, 3, 4), and Y's bytes are as they were in every case
 use Prim.Native.Nat.{ℕ}
 use mathlib.Core.Bool.{Bool, _&&_}
 use mathlib.Core.List.{List, [], _∷_}
@@ -22,7 +22,7 @@ use Rattle.layout.specs.declared.Layout.{Layout}
 use Rattle.layout.specs.Exists.{fed}
 use Rattle.rects.specs.declared.Area.{Area}
 use Rattle.rects.specs.Rects.{Rule, taken, chromaBlockAreaOf, inArea}
-use Rattle.rects.specs.Number.{mainNumberOf}
+use Rattle.rects.specs.Number.{lentNumberOf}
 use Rattle.auxiliary_rows.specs.Rows.{auxSource}
 
 unfoldable pub auxIn : Layout → View → Area → ℕ → ℕ → Bool
@@ -41,4 +41,4 @@ auxBuffersOf n t z w rects vy vu vv y u v =
 
 abbrev pub AuxOutcome : Layout → Size → View → List ℕ → List ℕ → List ℕ → List ℕ → List ℕ → List ℕ → List ℕ → Answer → List (List ℕ) → Type 0
 AuxOutcome t z w rects vy vu vv y u v =
-    Outcome (answerOf (mainNumberOf z w rects vy vu vv y u v) 0) (auxBuffersOf (mainNumberOf z w rects vy vu vv y u v) t z w rects vy vu vv y u v)
+    Outcome (answerOf (lentNumberOf z w rects vy vu vv y u v) 0) (auxBuffersOf (lentNumberOf z w rects vy vu vv y u v) t z w rects vy vu vv y u v)

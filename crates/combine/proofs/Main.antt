@@ -21,7 +21,7 @@ use Rattle.view.specs.View.{lumaOf, chromaOf}
 use Rattle.main_rows.specs.Rows.{RowsFit}
 use Rattle.main_rows.proofs.Rows.{upTo-facts, upTo-holds}
 use Rattle.rects.specs.Rects.{area}
-use Rattle.rects.specs.Number.{mainNumberOf}
+use Rattle.rects.specs.Number.{lentNumberOf}
 use Rattle.combine.specs.Main.{mainLuma, mainChroma, lumaAfter, chromaAfter, MainOutcome}
 use Rattle.combine.specs.Fits.{RectFits}
 use Rattle.lent.proofs.Ends.{answer-none, lent-refused, lent-done}
@@ -112,16 +112,16 @@ module _ (z : Size) (w : View) (left top right bottom : ℕ) where
 -- ---- how the call ends
 
 module _ (z : Size) (w : View) (rects vy vu vv y u v : List ℕ) where
-  pub main-refused : {n : ℕ} → n ≡ mainNumberOf z w rects vy vu vv y u v → (n ≡ 0 → ⊥)
+  pub main-refused : {n : ℕ} → n ≡ lentNumberOf z w rects vy vu vv y u v → (n ≡ 0 → ⊥)
       → MainOutcome z w rects vy vu vv y u v (record { number = n; count = 0 }) (y ∷ u ∷ v ∷ [])
   main-refused is f =
-      let not-zero : mainNumberOf z w rects vy vu vv y u v ≡ 0 → ⊥ = λ e. f (is ∙ e) in
+      let not-zero : lentNumberOf z w rects vy vu vv y u v ≡ 0 → ⊥ = λ e. f (is ∙ e) in
       record {
         answer = answer-none is;
         buffers = λ i. lent-refused _ y (lumaAfter z w rects vy y) not-zero i ∷ lent-refused _ u (chromaAfter z w rects vu u) not-zero i ∷ lent-refused _ v (chromaAfter z w rects vv v) not-zero i ∷ [];
       }
 
-  pub main-done : {y′ u′ v′ : List ℕ} → mainNumberOf z w rects vy vu vv y u v ≡ 0 → y′ ≡ lumaAfter z w rects vy y → u′ ≡ chromaAfter z w rects vu u → v′ ≡ chromaAfter z w rects vv v
+  pub main-done : {y′ u′ v′ : List ℕ} → lentNumberOf z w rects vy vu vv y u v ≡ 0 → y′ ≡ lumaAfter z w rects vy y → u′ ≡ chromaAfter z w rects vu u → v′ ≡ chromaAfter z w rects vv v
       → MainOutcome z w rects vy vu vv y u v (record { number = 0; count = 0 }) (y′ ∷ u′ ∷ v′ ∷ [])
   main-done is a b c = record {
     answer = answer-none (sym is);

@@ -6,7 +6,7 @@ use Prim.Native.Nat.{ℕ, _+_, _*_, _/_, _%_, _<_, _≤_, min}
 use native.Mathlib.Omega.{arith}
 use mathlib.Core.Path.{_≡_, refl, sym, ap, _∙_}
 use mathlib.Core.Bool.{true, false, _&&_}
-use mathlib.Core.Logic.{_⊎_, ⊎-elim}
+use mathlib.Core.Logic.{⊎-elim}
 use mathlib.Core.List.{List, [], _∷_}
 use Rattle.lent.specs.declared.Answer.{Answer}
 use lib.Dec.{ltb}
@@ -21,27 +21,23 @@ use Rattle.picture.specs.declared.Size.{Size}
 use Rattle.view.specs.declared.View.{View}
 use Rattle.view.specs.View.{chromaOf}
 use Rattle.view.specs.Alike.{SameSamples, Alike}
-use Rattle.rects.specs.Rects.{Rule, rectAtOf, nth, area, taken}
-use Rattle.rects.specs.Number.{mainNumberOf}
+use Rattle.rects.specs.Rects.{Rule, rectAtOf, nth, area, NoArea, taken}
+use Rattle.rects.specs.Number.{lentNumberOf}
 use Rattle.combine.specs.Main.{mainLuma, mainChroma, halved, lumaAfter, chromaAfter, mainBuffersOf, MainOutcome}
 use Rattle.rects.proofs.Rects.{taken-facts, list-one}
 use Rattle.combine.proofs.Main.{mainLuma-facts, mainChroma-facts, mainChroma-holds, chromaBelow}
 
 module _ (z : Size) (w : View) (left top right bottom : ℕ) where
-  -- the edges of an empty area meet or cross
-  abbrev pub NoArea : Type 0
-  NoArea = (roundUp 2 (min right (z .width)) ≤ left / 2 * 2) ⊎ (roundUp 2 (min bottom (z .height)) ≤ top / 2 * 2)
-
-  pub no-area-luma : NoArea → (r c : ℕ) → mainLuma z w left top right bottom r c ≡ false
+  pub no-area-luma : NoArea z left top right bottom → (r c : ℕ) → mainLuma z w left top right bottom r c ≡ false
   no-area-luma none r c =
       never-true _ (λ e. let f = mainLuma-facts z w left top right bottom r c e in ⊎-elim (λ h. omega arith) (λ h. omega arith) none)
 
-  pub no-area-chroma : NoArea → (r c : ℕ) → mainChroma z w left top right bottom r c ≡ false
+  pub no-area-chroma : NoArea z left top right bottom → (r c : ℕ) → mainChroma z w left top right bottom r c ≡ false
   no-area-chroma none r c =
       never-true _ (λ e. let f = mainChroma-facts z w left top right bottom r c e in ⊎-elim (λ h. omega arith) (λ h. omega arith) none)
 
   -- a rectangle whose widened area is empty changes nothing
-  pub no-area-nothing : NoArea → (vy y : List ℕ) (samples plane : List ℕ)
+  pub no-area-nothing : NoArea z left top right bottom → (vy y : List ℕ) (samples plane : List ℕ)
       → (lumaAfter z w (left ∷ top ∷ right ∷ bottom ∷ []) vy y ≡ y) × (chromaAfter z w (left ∷ top ∷ right ∷ bottom ∷ []) samples plane ≡ plane)
   no-area-nothing none vy y samples plane = (
     list-one _ _ (mainLuma z w) _ y left top right bottom ∙ sym (painted-none _ _ _ _ y (λ r c hr hc. no-area-luma none r c)),
@@ -102,8 +98,8 @@ module _ {w w′ : View} {vy vu vv vy′ vu′ vv′ : List ℕ} (alike : Alike 
       painted-ext _ _ _ _ _ _ plane (λ r c hr hc. ap (λ (rule : Rule). taken rule rects r c) chroma-rule)
       (λ r c hr hc e. let f = chroma-seen r c e in same (r / 2) (c / 2) (f .0) (f .1))
 
-  pub main-alike : (y u v : List ℕ) → mainNumberOf z w rects vy vu vv y u v ≡ 0 → mainNumberOf z w′ rects vy′ vu′ vv′ y u v ≡ 0
-      → mainBuffersOf (mainNumberOf z w rects vy vu vv y u v) z w rects vy vu vv y u v ≡ mainBuffersOf (mainNumberOf z w′ rects vy′ vu′ vv′ y u v) z w′ rects vy′ vu′ vv′ y u v
+  pub main-alike : (y u v : List ℕ) → lentNumberOf z w rects vy vu vv y u v ≡ 0 → lentNumberOf z w′ rects vy′ vu′ vv′ y u v ≡ 0
+      → mainBuffersOf (lentNumberOf z w rects vy vu vv y u v) z w rects vy vu vv y u v ≡ mainBuffersOf (lentNumberOf z w′ rects vy′ vu′ vv′ y u v) z w′ rects vy′ vu′ vv′ y u v
   main-alike y u v done done′ =
       let same = done ∙ sym done′ in
       λ i. lentAfter (same i) y (luma-alike y i)
@@ -116,4 +112,4 @@ module _ {w w′ : View} {vy vu vv vy′ vu′ vv′ : List ℕ} (alike : Alike 
 pub apply-main-view-unique : (z : Size) (w : View) (rects vy vu vv y u v : List ℕ) (r q : Answer) (rs qs : List (List ℕ))
     → MainOutcome z w rects vy vu vv y u v r rs → MainOutcome z w rects vy vu vv y u v q qs → (r ≡ q) × (rs ≡ qs)
 apply-main-view-unique z w rects vy vu vv y u v r q rs qs a b =
-    outcome-unique (λ (n : ℕ). answerOf n 0) (λ n. mainBuffersOf n z w rects vy vu vv y u v) (mainNumberOf z w rects vy vu vv y u v) r q rs qs a b
+    outcome-unique (λ (n : ℕ). answerOf n 0) (λ n. mainBuffersOf n z w rects vy vu vv y u v) (lentNumberOf z w rects vy vu vv y u v) r q rs qs a b

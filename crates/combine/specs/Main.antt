@@ -20,7 +20,7 @@ use Rattle.picture.specs.declared.Size.{Size}
 use Rattle.picture.specs.Sizes.{strideOf, rowsOf}
 use Rattle.view.specs.declared.View.{View}
 use Rattle.rects.specs.Rects.{Rule, taken, chromaBlockAreaOf, area}
-use Rattle.rects.specs.Number.{mainNumberOf}
+use Rattle.rects.specs.Number.{lentNumberOf}
 unfoldable pub use Rattle.main_rows.specs.Rows.{halved}
 
 unfoldable pub mainLuma : Size → View → Rule
@@ -43,4 +43,4 @@ mainBuffersOf n z w rects vy vu vv y u v =
 
 abbrev pub MainOutcome : Size → View → List ℕ → List ℕ → List ℕ → List ℕ → List ℕ → List ℕ → List ℕ → Answer → List (List ℕ) → Type 0
 MainOutcome z w rects vy vu vv y u v =
-    Outcome (answerOf (mainNumberOf z w rects vy vu vv y u v) 0) (mainBuffersOf (mainNumberOf z w rects vy vu vv y u v) z w rects vy vu vv y u v)
+    Outcome (answerOf (lentNumberOf z w rects vy vu vv y u v) 0) (mainBuffersOf (lentNumberOf z w rects vy vu vv y u v) z w rects vy vu vv y u v)

@@ -4,7 +4,7 @@ use Prim.Native.Nat.{ℕ, _+_, _*_, _/_, _<_, _≤_, min}
 use native.Mathlib.Omega.{arith}
 use mathlib.Core.Path.{_≡_, refl, sym, ap, _∙_}
 use mathlib.Core.Bool.{Bool, true, false, true≢false}
-use mathlib.Core.Logic.{_↔_, _⊎_, inl, inr, ⊎-elim}
+use mathlib.Core.Logic.{_↔_, inl, inr, ⊎-elim}
 use mathlib.Core.List.{List, [], _∷_}
 use lib.ListN.{length, getD}
 use Rattle.lent.specs.Paint.{painted, some}
@@ -15,7 +15,7 @@ use Rattle.lent.proofs.Painted.{painted-none, painted-ext}
 use Rattle.lent.proofs.Taken.{box-facts, box-holds}
 use Rattle.picture.specs.declared.Size.{Size}
 use Rattle.rects.specs.declared.Rect.{Rect}
-use Rattle.rects.specs.Rects.{Rule, rectAtOf, by, nth, takenBy, taken, area}
+use Rattle.rects.specs.Rects.{Rule, rectAtOf, by, nth, takenBy, taken, area, NoArea}
 
 -- ---- the loop over a list: the plane is painted by what the first n rectangles take
 
@@ -90,8 +90,7 @@ module _ (z : Size) (left top right bottom : ℕ) where
   area-holds r c t b l h = box-holds _ _ _ _ r c t b l h
 
   -- it is empty unless left < right and top < bottom after rounding
-  pub area-empty : ((r c : ℕ) → area z left top right bottom r c ≡ false)
-      ↔ ((roundUp 2 (min right (z .width)) ≤ left / 2 * 2) ⊎ (roundUp 2 (min bottom (z .height)) ≤ top / 2 * 2))
+  pub area-empty : ((r c : ℕ) → area z left top right bottom r c ≡ false) ↔ NoArea z left top right bottom
   area-empty = (
     λ none. ⊎-elim (λ l. ⊎-elim (λ t. absurd (true≢false (sym (area-holds _ _ (omega arith) t (omega arith) l) ∙ none (top / 2 * 2) (left / 2 * 2)))) inr (split (top / 2 * 2) _)) inl (split (left / 2 * 2) _),
     λ edges r c. never-true _ (λ e. ⊎-elim (λ h. omega (arith, area-facts r c e)) (λ h. omega (arith, area-facts r c e)) edges),

@@ -10,8 +10,10 @@
 --                               and min(bottom, height) rounded up to even
 --   area z left top right bottom r c              row r, column c lies in the widened area. It is empty unless left < right and
 --                               top < bottom after rounding (`area-empty`)
-use Prim.Native.Nat.{ℕ, _+_, _*_, _/_, min}
+--   NoArea z left top right bottom                the widened area is empty: its edges meet or cross
+use Prim.Native.Nat.{ℕ, _+_, _*_, _/_, min, _≤_}
 use mathlib.Core.Bool.{Bool}
+use mathlib.Core.Logic.{_⊎_}
 use mathlib.Core.List.{List}
 use lib.ListN.{length, getD}
 use Rattle.lent.specs.Paint.{box, some}
@@ -58,3 +60,8 @@ inArea a = box (a .top) (a .bottom) (a .left) (a .right)
 
 abbrev pub area : Size → Rule
 area z left top right bottom = inArea (chromaBlockAreaOf z left top right bottom)
+
+abbrev pub NoArea : Size → ℕ → ℕ → ℕ → ℕ → Type 0
+NoArea z left top right bottom =
+    (chromaBlockAreaOf z left top right bottom .right ≤ chromaBlockAreaOf z left top right bottom .left)
+    ⊎ (chromaBlockAreaOf z left top right bottom .bottom ≤ chromaBlockAreaOf z left top right bottom .top)

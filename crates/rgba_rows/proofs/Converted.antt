@@ -13,7 +13,7 @@ use Rattle.lent.proofs.Painted.{length-painted}
 use Rattle.lent.proofs.Rows.{rows-none, rows-all}
 use Rattle.colour.specs.Colour.{forwardOf}
 use Rattle.colour.specs.declared.Yuv.{Yuv}
-use Rattle.rgba_rows.specs.Rows.{colourAt, inside, lineOf, linePainted, RowFits}
+use Rattle.rgba_rows.specs.Rows.{colourAt, inside, lineOf, linePainted, PixelsFit}
 use Rattle.rgba_rows.proofs.PartRows.{part-more}
 use Rattle.rgba_rows.proofs.Padding.{inside-row, inside-facts}
 
@@ -35,7 +35,7 @@ pixels-in width height row n fits h = omega (arith, row-in width height row h, m
 
 -- the parts that a row's pass is lent fit each other
 pub row-fits : (px y u v : List ℕ) (at line width : ℕ) → at + 4 * width ≤ length px → line + width ≤ length y → line + width ≤ length u → line + width ≤ length v
-    → RowFits (length (take (at + 4 * width - at) (drop at px))) (length (take (line + width - line) (drop line y))) (length (take (line + width - line) (drop line u))) (length (take (line + width - line) (drop line v)))
+    → PixelsFit (length (take (at + 4 * width - at) (drop at px))) (length (take (line + width - line) (drop line y))) (length (take (line + width - line) (drop line u))) (length (take (line + width - line) (drop line v)))
 row-fits px y u v at line width hp hy hu hv =
     rw (
       part-long px at (at + 4 * width) (omega arith) hp,

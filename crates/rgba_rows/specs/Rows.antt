@@ -7,7 +7,7 @@
 --   paddingFromOf width height r   the column from which row r is padding
 --   lineOf px at n                 the n pixels from byte `at` on
 --   linePainted a n s xs           xs, with s k at place k of the n bytes from a on
---   RowFits npx ny nu nv           a row's pixels are four bytes for each of its samples
+--   PixelsFit npx ny nu nv         a row's pixels are four bytes for each of its samples
 --   LineFits npx ny nu nv at n line      n pixels from byte `at` on are in the input, and n samples from `line` on in each plane
 --   RoomFor width height npx ny nu nv    the input has every pixel, and each buffer has room for a whole plane
 use Prim.Native.Nat.{ℕ, _+_, _*_, _≤_}
@@ -40,7 +40,7 @@ lineOf px at n = take (4 * n) (drop at px)
 abbrev pub linePainted : ℕ → ℕ → (ℕ → ℕ) → List ℕ → List ℕ
 linePainted a n s xs = take a xs ++ (paint every s (take n (drop a xs)) ++ drop n (drop a xs))
 
-pub record RowFits (npx ny nu nv : ℕ) : Type 0 where
+pub record PixelsFit (npx ny nu nv : ℕ) : Type 0 where
   pub pixels : npx ≡ 4 * ny
   pub same-u : nu ≡ ny
   pub same-v : nv ≡ ny

@@ -15,7 +15,7 @@ ghost use Rattle.rgba_rows.specs.Rows.{
   paddingFromOf,
   lineOf,
   linePainted,
-  RowFits,
+  PixelsFit,
   LineFits,
   RoomFor,
 };
@@ -48,7 +48,7 @@ fn pad_plane(plane: &mut [u8], width: u16, height: u16, value: u8)
 
 // Y, U and V of a row of pixels, in one pass.
 fn forward_row(pixels: &[u8], y: &mut [u8], u: &mut [u8], v: &mut [u8])
-    requires { ⌜ RowFits (length (now pixels)) (length (now y)) (length (now u)) (length (now v)) ⌝ }
+    requires { ⌜ PixelsFit (length (now pixels)) (length (now y)) (length (now u)) (length (now v)) ⌝ }
     ensures y { λ _. ⌜ now (y .exit) ≡ paint every (λ k. colourAt (now (pixels .entry)) k .y) (now (y .entry)) ⌝ }
     ensures u { λ _. ⌜ now (u .exit) ≡ paint every (λ k. colourAt (now (pixels .entry)) k .u) (now (u .entry)) ⌝ }
     ensures v { λ _. ⌜ now (v .exit) ≡ paint every (λ k. colourAt (now (pixels .entry)) k .v) (now (v .entry)) ⌝ }

@@ -1,9 +1,9 @@
 -- What the row writers ask of their callers, over lengths.
 --
---   RowFits n m step stride row    a row of n bytes takes each step-th sample of row `row` of a plane of m bytes
+--   StepsFit n m step stride row    a row of n bytes takes each step-th sample of row `row` of a plane of m bytes
 use Prim.Native.Nat.{ℕ, _+_, _*_, _≤_}
 use mathlib.Core.Path.{_≡_}
 
-pub record RowFits (n m step stride row : ℕ) : Type 0 where
+pub record StepsFit (n m step stride row : ℕ) : Type 0 where
   pub exact : step * n ≡ stride
   pub reach : row * stride + stride ≤ m

@@ -10,11 +10,11 @@ ghost use lib.ListN.{length, getD};
 ghost use Rattle.lent.specs.Paint.{paint, every};
 ghost use Rattle.lent.specs.Samples.{sample};
 ghost use Rattle.split_rows.specs.Pairs.{pairOf};
-ghost use Rattle.split_rows.specs.Fits.{RowFits};
+ghost use Rattle.split_rows.specs.Fits.{StepsFit};
 
 // out becomes row `row` of the plane.
 pub fn copy_row(out: &mut [u8], plane: &[u8], stride: usize, row: usize)
-    requires { ⌜ RowFits (length (now out)) (length (now plane)) 1 stride row ⌝ }
+    requires { ⌜ StepsFit (length (now out)) (length (now plane)) 1 stride row ⌝ }
     ensures { λ _. ⌜ now (out .exit) ≡ paint every (λ c. sample (now (plane .entry)) stride row c) (now (out .entry)) ⌝ }
 {
     let from = row * stride;
@@ -138,7 +138,7 @@ fn fourths_part(dst: &mut [u8], src: &[u8], first: usize)
 
 // out becomes every second sample of row `row` of the plane, from column `first` on.
 pub fn seconds_row(out: &mut [u8], plane: &[u8], stride: usize, row: usize, first: usize)
-    requires { ⌜ RowFits (length (now out)) (length (now plane)) 2 stride row ⌝ }
+    requires { ⌜ StepsFit (length (now out)) (length (now plane)) 2 stride row ⌝ }
     requires { ⌜ first < 2 ⌝ }
     ensures { λ _. ⌜ now (out .exit) ≡ paint every (λ c. sample (now (plane .entry)) stride row (2 * c + first)) (now (out .entry)) ⌝ }
 {
@@ -158,7 +158,7 @@ pub fn seconds_row(out: &mut [u8], plane: &[u8], stride: usize, row: usize, firs
 
 // out becomes every fourth sample of row `row` of the plane, from column `first` on.
 pub fn fourths_row(out: &mut [u8], plane: &[u8], stride: usize, row: usize, first: usize)
-    requires { ⌜ RowFits (length (now out)) (length (now plane)) 4 stride row ⌝ }
+    requires { ⌜ StepsFit (length (now out)) (length (now plane)) 4 stride row ⌝ }
     requires { ⌜ first < 4 ⌝ }
     ensures { λ _. ⌜ now (out .exit) ≡ paint every (λ c. sample (now (plane .entry)) stride row (4 * c + first)) (now (out .entry)) ⌝ }
 {

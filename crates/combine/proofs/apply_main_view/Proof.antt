@@ -4,7 +4,7 @@ use borrow.Author.Needs.{needs}
 use mathlib.Core.Path.{_≡_, sym, _∙_}
 use lib.ListN.{length}
 use denote.Ref.{now}
-use Rattle.rects.specs.Number.{Accepted, mainNumberOf}
+use Rattle.rects.specs.Number.{Accepted, lentNumberOf}
 use Rattle.rects.proofs.Number.{apply-fits}
 use Rattle.combine.proofs.Main.{main-refused, main-done}
 use Rattle.combine.proofs.apply_main_view.Statement.{statement}
@@ -16,7 +16,7 @@ start c = c .before .before .before .before .before .before .before .before
 -- the number of an accepted call is 0, and what such a call has
 zero : (c : tie.Else1)
     → let a = start (c .before) .args in
-    mainNumberOf (a .size) (a .w) (now (a .rects)) (now (a .vy)) (now (a .vu)) (now (a .vv)) (now (a .y)) (now (a .u)) (now (a .v)) ≡ 0
+    lentNumberOf (a .size) (a .w) (now (a .rects)) (now (a .vy)) (now (a .vu)) (now (a .vv)) (now (a .y)) (now (a .u)) (now (a .v)) ≡ 0
 zero c = sym (c .before .apply-number .ensures) ∙ c .if1 .left
 
 has : (c : tie.Else1)
