@@ -1,0 +1,2 @@
+-- The numbers of an AVC444 payload.
+pub mod Fields
