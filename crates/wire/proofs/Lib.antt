@@ -1,0 +1,4 @@
+-- The laws of the AVC444 payload.
+pub mod Reading
+pub mod Exactly
+pub mod Format
