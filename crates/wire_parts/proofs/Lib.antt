@@ -1,0 +1,2 @@
+-- The laws of the parts.
+pub mod Parts

@@ -1,0 +1,37 @@
+use Prim.Native.Nat.{ℕ}
+use native.Mathlib.Nat.{add-sub-cancel-left}
+use mathlib.Core.Path.{refl, ap}
+use lib.ListN.{take, drop}
+use denote.Ref.{now}
+use borrow.Author.Needs.{needs}
+use Rattle.wire_parts.proofs.cut.Statement.{statement}
+use Rattle.wire_parts.proofs.cut.Tie as tie
+use Rattle.wire_parts.proofs.cut.Reads as reads
+use Rattle.wire_parts.proofs.cut.Lts as lts
+
+-- src/lib.rt:75:15
+add-end : tie.Need-add-end
+add-end c = search needs
+
+-- src/lib.rt:76:5
+sub-result : tie.Need-sub-result
+sub-result c = search needs
+
+-- src/lib.rt:76:5
+part-result-start : tie.Need-part-result-start
+part-result-start c = search needs
+
+-- src/lib.rt:76:5
+part-result-end : tie.Need-part-result-end
+part-result-end c = search needs
+
+-- src/lib.rt:71:1
+returns : tie.Need-returns
+returns c = record {
+  block = refl;
+  offset = refl;
+  holds = ap (λ (n : ℕ). take n (drop (c .before .args .start) (now (c .before .args .payload)))) (add-sub-cancel-left (c .before .args .start) (c .before .args .n));
+}
+
+pub cut-spec : {M : Type 1} → statement M
+cut-spec = tie.close (tie.spec add-end sub-result part-result-start part-result-end returns)

@@ -1,0 +1,34 @@
+use Prim.Native.Nat.{_*_}
+use mathlib.Core.Path.{subst}
+use lib.ListN.{take, drop}
+use denote.Ref.{now}
+use Rattle.lent.specs.Outcome.{OwnPart}
+use Rattle.wire.specs.declared.Stream.{Stream}
+use borrow.Author.Needs.{needs}
+use Rattle.wire_parts.proofs.pairs.Statement.{statement}
+use Rattle.wire_parts.proofs.pairs.Tie as tie
+use Rattle.wire_parts.proofs.pairs.Reads as reads
+use Rattle.wire_parts.proofs.pairs.Lts as lts
+use Rattle.wire_parts.proofs.cut.Reads as cut-reads
+use Rattle.wire_parts.proofs.find.Reads as find-reads
+
+-- src/lib.rt:91:9
+find-requires : tie.Need-find-requires
+find-requires c κs = search needs
+
+-- src/lib.rt:92:27
+mul-cut : tie.Need-mul-cut
+mul-cut c = search needs
+
+-- src/lib.rt:92:5
+cut-requires : tie.Need-cut-requires
+cut-requires c κs = search needs
+
+-- src/lib.rt:88:1
+returns : tie.Need-returns
+returns c =
+    let p = c .before .before .before .before .args .payload in
+    subst (λ (x : Stream). OwnPart p (c .cut .result) (x .pairs) (take (2 * x .count) (drop (x .pairs) (now p)))) (c .before .before .find .ensures .0) (c .cut .ensures)
+
+pub pairs-spec : {M : Type 1} → statement M
+pairs-spec = tie.close (tie.spec find-requires mul-cut cut-requires returns)

@@ -1,0 +1,34 @@
+use Prim.Native.Nat.{_*_}
+use mathlib.Core.Path.{subst}
+use lib.ListN.{take, drop}
+use denote.Ref.{now}
+use Rattle.lent.specs.Outcome.{OwnPart}
+use Rattle.wire.specs.declared.Stream.{Stream}
+use borrow.Author.Needs.{needs}
+use Rattle.wire_parts.proofs.rects.Statement.{statement}
+use Rattle.wire_parts.proofs.rects.Tie as tie
+use Rattle.wire_parts.proofs.rects.Reads as reads
+use Rattle.wire_parts.proofs.rects.Lts as lts
+use Rattle.wire_parts.proofs.cut.Reads as cut-reads
+use Rattle.wire_parts.proofs.find.Reads as find-reads
+
+-- src/lib.rt:83:9
+find-requires : tie.Need-find-requires
+find-requires c κs = search needs
+
+-- src/lib.rt:84:27
+mul-cut : tie.Need-mul-cut
+mul-cut c = search needs
+
+-- src/lib.rt:84:5
+cut-requires : tie.Need-cut-requires
+cut-requires c κs = search needs
+
+-- src/lib.rt:80:1
+returns : tie.Need-returns
+returns c =
+    let p = c .before .before .before .before .args .payload in
+    subst (λ (x : Stream). OwnPart p (c .cut .result) (x .rects) (take (8 * x .count) (drop (x .rects) (now p)))) (c .before .before .find .ensures .0) (c .cut .ensures)
+
+pub rects-spec : {M : Type 1} → statement M
+rects-spec = tie.close (tie.spec find-requires mul-cut cut-requires returns)

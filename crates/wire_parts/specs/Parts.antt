@@ -1,0 +1,85 @@
+-- The parts of a stream of an AVC444 payload (document 02, E1: "The answer shows the rectangles, pairs and H.264 bytes as parts of the
+-- payload"), and one rectangle or pair of it.
+--
+--   streamOf w a, streamIn s w      one of the two streams of an answer, and of the payload s: all 0 where it is not carried, and in a refusal
+--   rectBytes, pairBytes, dataBytes the bytes of its rectangles, of its pairs, and its H.264 bytes
+--   rectangleOf s w i               rectangle i: present where i is below the count, four u16
+--   pairOf s w i                    pair i: a quantiser byte and a quality byte
+--   numbersOf s w out               out with the rectangles' numbers in front, four for each
+--   copyNumberOf s w n              the payload's number, then 6: n numbers are fewer than the rectangles have
+--   CopyOutcome s w out             how the copy ends, refusals included
+use Prim.Native.Nat.{ℕ, _+_, _*_}
+use mathlib.Core.Bool.{Bool, true, false, cond, not}
+use mathlib.Core.List.{List, [], _∷_}
+use lib.Dec.{ltb, eqb}
+use lib.ListN.{length, getD, take, drop}
+use Rattle.lent.specs.declared.Answer.{Answer}
+use Rattle.lent.specs.Outcome.{Outcome, answerOf, lentAfter}
+use Rattle.lent.specs.Paint.{paint}
+use Rattle.lent.specs.Refusal.{refusal}
+use Rattle.fields.specs.Fields.{u16At, quantiserIn}
+use Rattle.wire.specs.declared.Stream.{Stream}
+use Rattle.wire.specs.declared.Avc444.{Avc444}
+use Rattle.wire.specs.Reading.{readNumberOf, readOf}
+use Rattle.wire_parts.specs.declared.Which.{Which}
+use Rattle.wire_parts.specs.declared.Which.the-variants.{Luma, Chroma}
+use Rattle.wire_parts.specs.declared.Rectangle.{Rectangle}
+use Rattle.wire_parts.specs.declared.Pair.{Pair}
+
+abbrev pub streamOf : Which → Avc444 → Stream
+streamOf Luma a = a .luma
+streamOf Chroma a = a .chroma
+
+abbrev pub streamIn : List ℕ → Which → Stream
+streamIn s w = streamOf w (readOf s)
+
+abbrev pub rectBytes : List ℕ → Which → List ℕ
+rectBytes s w = take (8 * streamIn s w .count) (drop (streamIn s w .rects) s)
+
+abbrev pub pairBytes : List ℕ → Which → List ℕ
+pairBytes s w = take (2 * streamIn s w .count) (drop (streamIn s w .pairs) s)
+
+abbrev pub dataBytes : List ℕ → Which → List ℕ
+dataBytes s w = take (streamIn s w .length) (drop (streamIn s w .«data») s)
+
+abbrev pub rectangleIn : ℕ → List ℕ → ℕ → Rectangle
+rectangleIn n s at = record {
+  number = n;
+  present = true;
+  left = u16At s at;
+  top = u16At s (at + 2);
+  right = u16At s (at + 4);
+  bottom = u16At s (at + 6);
+}
+
+abbrev pub noRectangle : ℕ → Rectangle
+noRectangle n = record { number = n; present = false; left = 0; top = 0; right = 0; bottom = 0 }
+
+unfoldable pub rectangleOf : List ℕ → Which → ℕ → Rectangle
+rectangleOf s w i = cond (ltb i (streamIn s w .count)) (rectangleIn (readNumberOf s) s (streamIn s w .rects + 8 * i)) (noRectangle (readNumberOf s))
+
+abbrev pub pairIn : ℕ → List ℕ → ℕ → Pair
+pairIn n s at = record {
+  number = n;
+  present = true;
+  value = quantiserIn (getD s at 0) .value;
+  reserved = quantiserIn (getD s at 0) .reserved;
+  progressive = quantiserIn (getD s at 0) .progressive;
+  quality = getD s (at + 1) 0;
+}
+
+abbrev pub noPair : ℕ → Pair
+noPair n = record { number = n; present = false; value = 0; reserved = false; progressive = false; quality = 0 }
+
+unfoldable pub pairOf : List ℕ → Which → ℕ → Pair
+pairOf s w i = cond (ltb i (streamIn s w .count)) (pairIn (readNumberOf s) s (streamIn s w .pairs + 2 * i)) (noPair (readNumberOf s))
+
+unfoldable pub numbersOf : List ℕ → Which → List ℕ → List ℕ
+numbersOf s w out = paint (λ k. ltb k (4 * streamIn s w .count)) (λ k. u16At s (streamIn s w .rects + 2 * k)) out
+
+unfoldable pub copyNumberOf : List ℕ → Which → ℕ → ℕ
+copyNumberOf s w n = refusal ((not (eqb (readNumberOf s) 0), readNumberOf s) ∷ (ltb n (4 * streamIn s w .count), 6) ∷ [])
+
+abbrev pub CopyOutcome : List ℕ → Which → List ℕ → Answer → List (List ℕ) → Type 0
+CopyOutcome s w out =
+    Outcome (answerOf (copyNumberOf s w (length out)) (4 * streamIn s w .count)) (lentAfter (copyNumberOf s w (length out)) out (numbersOf s w out) ∷ [])

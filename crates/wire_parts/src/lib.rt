@@ -1,0 +1,194 @@
+// The parts of a stream of an AVC444 payload: its rectangles, its quantiser and quality pairs and its H.264 bytes as the caller's own
+// bytes; one rectangle or pair by its place; and all rectangles as the numbers that the apply calls take.
+//
+// Of a payload that `wire::read` refuses, and of a stream that is not carried, a part is empty and nothing is present. The number that
+// stands beside a part is that of `wire::read`. No public call asks anything of its caller.
+ghost use mathlib.Core.Path.{_≡_};
+ghost use mathlib.Core.List.{[], _∷_};
+ghost use Prim.Native.Nat.{_+_, _*_, _≤_};
+ghost use lib.Dec.{ltb};
+ghost use lib.ListN.{length, take, drop};
+ghost use Rattle.lent.specs.Outcome.{Outcome, OwnPart};
+ghost use Rattle.lent.specs.Paint.{paint};
+ghost use Rattle.fields.specs.Fields.{u16At};
+ghost use Rattle.wire.specs.Reading.{readNumberOf, Inside};
+ghost use Rattle.wire_parts.specs.Parts.{streamOf, streamIn, rectBytes, pairBytes, dataBytes, rectangleOf, pairOf, CopyOutcome};
+use wire::Stream;
+
+// One of the two streams that a payload may carry.
+pub enum Which {
+    Luma,
+    Chroma,
+}
+
+// A rectangle of a stream: zeros where it is not present.
+#[repr(C)]
+pub struct Rectangle {
+    pub number: u32,
+    pub present: bool,
+    pub left: u16,
+    pub top: u16,
+    pub right: u16,
+    pub bottom: u16,
+}
+
+// A quantiser and quality pair of a stream: zeros where it is not present.
+#[repr(C)]
+pub struct Pair {
+    pub number: u32,
+    pub present: bool,
+    pub value: u8,
+    pub reserved: bool,
+    pub progressive: bool,
+    pub quality: u8,
+}
+
+fn pick(a: wire::Avc444, which: Which) -> Stream
+    ensures { λ r. ⌜ r ≡ streamOf which a ⌝ }
+{
+    match which {
+        Which::Luma => a.luma,
+        Which::Chroma => a.chroma,
+    }
+}
+
+// 0, or the refusal of the payload: the number that stands beside each part below.
+pub fn number(payload: &[u8]) -> u32
+    ensures { λ r. ⌜ r ≡ readNumberOf (now (payload .entry)) ⌝ }
+{
+    let a = wire::read(payload);
+    a.number
+}
+
+// Where the parts of a stream stand.
+fn find(payload: &[u8], which: Which) -> Stream
+    ensures { λ r. ⌜ (r ≡ streamIn (now (payload .entry)) which) × Inside r (length (now (payload .entry))) ⌝ }
+{
+    pick(wire::read(payload), which)
+}
+
+// n bytes of the payload, from start on.
+fn cut<'a>(payload: &'a [u8], start: usize, n: usize) -> &'a [u8]
+    requires { ⌜ start + n ≤ length (now payload) ⌝ }
+    ensures { λ r. ⌜ OwnPart (payload .entry) r start (take n (drop start (now (payload .entry)))) ⌝ }
+{
+    let end = start + n;
+    &payload[start..end]
+}
+
+// The rectangles of a stream, eight bytes each.
+pub fn rects<'a>(payload: &'a [u8], which: Which) -> &'a [u8]
+    ensures { λ r. ⌜ OwnPart (payload .entry) r (streamIn (now (payload .entry)) which .rects) (rectBytes (now (payload .entry)) which) ⌝ }
+{
+    let x = find(payload, which);
+    cut(payload, x.rects, 8 * x.count)
+}
+
+// The pairs of a stream, two bytes each.
+pub fn pairs<'a>(payload: &'a [u8], which: Which) -> &'a [u8]
+    ensures { λ r. ⌜ OwnPart (payload .entry) r (streamIn (now (payload .entry)) which .pairs) (pairBytes (now (payload .entry)) which) ⌝ }
+{
+    let x = find(payload, which);
+    cut(payload, x.pairs, 2 * x.count)
+}
+
+// The H.264 bytes of a stream.
+pub fn h264<'a>(payload: &'a [u8], which: Which) -> &'a [u8]
+    ensures { λ r. ⌜ OwnPart (payload .entry) r (streamIn (now (payload .entry)) which .«data») (dataBytes (now (payload .entry)) which) ⌝ }
+{
+    let x = find(payload, which);
+    cut(payload, x.data, x.length)
+}
+
+// Rectangle i of a stream.
+pub fn rectangle_at(payload: &[u8], which: Which, i: usize) -> Rectangle
+    ensures { λ r. ⌜ Outcome (rectangleOf (now (payload .entry)) which i) [] r [] ⌝ }
+{
+    let number = number(payload);
+    let x = find(payload, which);
+    if i >= x.count {
+        return Rectangle {
+            number: number,
+            present: false,
+            left: 0,
+            top: 0,
+            right: 0,
+            bottom: 0,
+        };
+    }
+    let at = x.rects + 8 * i;
+    Rectangle {
+        number: number,
+        present: true,
+        left: fields::u16_at(payload, at),
+        top: fields::u16_at(payload, at + 2),
+        right: fields::u16_at(payload, at + 4),
+        bottom: fields::u16_at(payload, at + 6),
+    }
+}
+
+// Pair i of a stream.
+pub fn pair_at(payload: &[u8], which: Which, i: usize) -> Pair
+    ensures { λ r. ⌜ Outcome (pairOf (now (payload .entry)) which i) [] r [] ⌝ }
+{
+    let number = number(payload);
+    let x = find(payload, which);
+    if i >= x.count {
+        return Pair {
+            number: number,
+            present: false,
+            value: 0,
+            reserved: false,
+            progressive: false,
+            quality: 0,
+        };
+    }
+    let at = x.pairs + 2 * i;
+    let q = fields::quantiser_in(payload[at]);
+    Pair {
+        number: number,
+        present: true,
+        value: q.value,
+        reserved: q.reserved,
+        progressive: q.progressive,
+        quality: payload[at + 1],
+    }
+}
+
+// The first n numbers of out become those that start at `at`.
+fn put_numbers(s: &[u8], at: usize, out: &mut [u16], n: usize)
+    requires { ⌜ (at + 2 * n ≤ length (now s)) × (n ≤ length (now out)) ⌝ }
+    ensures { λ _. ⌜ now (out .exit) ≡ paint (λ k. ltb k n) (λ k. u16At (now (s .entry)) (at + 2 * k)) (now (out .entry)) ⌝ }
+{
+    let mut i = 0;
+    while i < n {
+        out[i] = fields::u16_at(s, at + 2 * i);
+        i += 1;
+    }
+}
+
+// The rectangles of a stream as numbers in fours, as the apply calls take them. The count is the numbers written.
+pub fn copy_rects(payload: &[u8], which: Which, out: &mut [u16]) -> lent::Answer
+    ensures { λ r. ⌜ CopyOutcome (now (payload .entry)) which (now (out .entry)) r (now (out .exit) ∷ []) ⌝ }
+{
+    let number = number(payload);
+    if number != 0 {
+        return lent::Answer {
+            number: number,
+            count: 0,
+        };
+    }
+    let x = find(payload, which);
+    if out.len() / 4 < x.count {
+        return lent::Answer {
+            number: 6,
+            count: 0,
+        };
+    }
+    let n = 4 * x.count;
+    put_numbers(payload, x.rects, out, n);
+    lent::Answer {
+        number: 0,
+        count: n,
+    }
+}
