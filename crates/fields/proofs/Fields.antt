@@ -1,11 +1,12 @@
 -- Shifts and masks mean the arithmetic of specs/Fields.antt, and what is put back is what was taken out.
 -- Assumes nothing.
-use Prim.Native.Nat.{ℕ, _+_, _*_, _/_, _%_, _^_, _≤_, _<_}
+use Prim.Native.Nat.{ℕ, zero, suc, _+_, _*_, _/_, _%_, _^_, _≤_, _<_}
 use native.Mathlib.Nat.{mod-lt}
 use native.Mathlib.Omega.{arith}
 use mathlib.Core.Path.{_≡_, refl, sym, ap, _∙_}
 use mathlib.Core.Bool.{Bool, true, false}
 use mathlib.Core.List.{List, _++_}
+use lib.Dec.{eqb}
 use lib.ListN.{length, getD, List·getD-append}
 use lib.Seq.{getD-append-add}
 use lib.Bits.{bitAnd, bitOr, and-mask, or-shifted}
@@ -48,6 +49,37 @@ kind-back kind size h = omega arith
 
 pub size-back : (kind size : ℕ) → size < 2 ^ 30 → sizeIn (infoOf kind size) ≡ size
 size-back kind size h = omega arith
+
+-- a flag is its bit, and a bit its flag
+flag-back : (flag : Bool) → eqb (bitOf flag) 1 ≡ flag
+flag-back true = refl
+flag-back false = refl
+
+bit-back : (n : ℕ) → n < 2 → bitOf (eqb n 1) ≡ n
+bit-back zero h = refl
+bit-back (suc zero) h = refl
+bit-back (suc (suc n)) h = absurd (omega arith)
+
+-- a byte is its value and its flags, and they are what was put into it
+pub byte-parts : (b : ℕ) → b < 256 → quantiserByteOf (quantiserIn b) ≡ b
+byte-parts b h =
+    let r = bit-back (b / 64 % 2) (omega arith) in
+    let p = bit-back (b / 128) (omega arith) in
+    (λ i. b % 64 % 64 + r i * 64 + p i * 128) ∙ omega arith
+
+pub quantiser-back : (q : Quantiser) → q .value < 64 → quantiserIn (quantiserByteOf q) ≡ q
+quantiser-back q h =
+    let r = bit-small (q .reserved) in
+    let p = bit-small (q .progressive) in
+    let value-is : quantiserByteOf q % 64 ≡ q .value = omega arith in
+    let flags-are : quantiserByteOf q / 64 ≡ bitOf (q .reserved) + bitOf (q .progressive) * 2 = omega arith in
+    let reserved-is : quantiserByteOf q / 64 % 2 ≡ bitOf (q .reserved) = ap (λ (n : ℕ). n % 2) flags-are ∙ omega arith in
+    let progressive-is : quantiserByteOf q / 128 ≡ bitOf (q .progressive) = omega arith in
+    λ i. record {
+      value = value-is i;
+      reserved = (ap (λ (n : ℕ). eqb n 1) reserved-is ∙ flag-back (q .reserved)) i;
+      progressive = (ap (λ (n : ℕ). eqb n 1) progressive-is ∙ flag-back (q .progressive)) i;
+    }
 
 -- ---- numbers in parts
 

@@ -1,24 +1,22 @@
 -- The numbers of `read`, "exactly when", in plain inequalities; and where the parts stand that it answers.
 -- Assumes nothing.
-use Prim.Native.Nat.{ℕ, _+_, _*_, _-_, _≤_, _<_}
+use Prim.Native.Nat.{ℕ, _+_, _*_, _≤_, _<_}
 use native.Mathlib.Nat.{le-refl}
 use native.Mathlib.Omega.{arith}
-use mathlib.Core.Path.{_≡_, refl, sym, ap, _∙_}
-use mathlib.Core.Bool.{Bool, true, false, cond, not, _&&_, _||_, true≢false, false≢true}
-use mathlib.Core.Logic.{_↔_, _⊎_, inl, inr, ⊎-elim, Iff·rfl, Iff·trans, Iff·and, and-true}
+use mathlib.Core.Path.{_≡_, refl, sym, _∙_}
+use mathlib.Core.Bool.{Bool, true, false, cond, _&&_}
+use mathlib.Core.Logic.{_↔_, _⊎_, inl, inr, ⊎-elim, Iff·trans}
 use mathlib.Core.List.{List, [], _∷_, _++_}
 use lib.Dec.{ltb, eqb}
 use lib.ListN.{length}
 use borrow.Author.Tests.{ltb-true, ltb-false, lt-ltb, le-ltb, eq-eqb, ne-eqb, eqb-true, eqb-false}
-use Rattle.lent.specs.declared.Answer.{Answer}
 use Rattle.lent.specs.Refusal.{refusal}
-use Rattle.lent.proofs.Bools.{cond-true, cond-false, both, both-left, both-right, never-true}
+use Rattle.lent.proofs.Bools.{both, both-left, both-right}
 use Rattle.lent.proofs.Exactly.{or-exactly, nor}
 use Rattle.lent.proofs.Outcome.{outcome-unique}
 use Rattle.lent.specs.Outcome.{Outcome}
 use Rattle.lent.proofs.Refusal.{refusal-exactly, refusal-none}
 use Rattle.fields.specs.Fields.{u32At}
-use Rattle.wire.specs.declared.Stream.{Stream}
 use Rattle.wire.specs.declared.Avc444.{Avc444}
 use Rattle.wire.specs.Reading.{kindOf, sizeOf, carriesLuma, carriesChroma, lumaEnd, chromaStart, streamIn, noStream, pastEnd, headTests, streamsPast, readNumberOf, refusedWith, carriedOf, readOf, Inside}
 use Rattle.wire.proofs.Reading.{Good, pastEnd-is, read-accepted, follows-in}

@@ -4,18 +4,17 @@ use Prim.Native.Nat.{ℕ, zero, suc, _+_, _*_, _-_, _^_, _≤_, _<_}
 use native.Mathlib.Nat.{le-refl}
 use native.Mathlib.Omega.{arith}
 use mathlib.Core.Path.{_≡_, refl, sym, ap, subst, _∙_}
-use mathlib.Core.Bool.{Bool, true, false, cond, not, _&&_, _||_}
-use mathlib.Core.List.{List, [], _∷_, _++_, append-assoc}
-use lib.Dec.{ltb, eqb}
+use mathlib.Core.Bool.{Bool, false, cond, _&&_, _||_}
+use mathlib.Core.List.{List, _++_, append-assoc}
 use lib.ListN.{length, getD, take, drop, length-append, length-drop, take-append-drop}
 use lib.Seq.{length-take-le, take-all, take-add, drop-drop, getD-take, getD-drop}
-use borrow.Author.Tests.{ltb-false, le-ltb, eq-eqb, eqb-true}
+use borrow.Author.Tests.{ltb-false, le-ltb}
 use Rattle.lent.proofs.Exactly.{nor}
 use Rattle.fields.specs.Fields.{u32At, kindIn, sizeIn}
 use Rattle.fields.proofs.Fields.{u32-front, u32-behind}
 use Rattle.wire.specs.declared.Stream.{Stream}
 use Rattle.wire.specs.declared.Avc444.{Avc444}
-use Rattle.wire.specs.Reading.{kindOf, sizeOf, carriesLuma, carriesChroma, follows, lumaEnd, chromaStart, streamIn, noStream, pastEnd, headNumberOf, streamsPast, readNumberOf, readOf}
+use Rattle.wire.specs.Reading.{kindOf, sizeOf, carriesLuma, carriesChroma, follows, streamIn, noStream, pastEnd, readNumberOf, readOf}
 use Rattle.wire.specs.Format.{Parts, bytesOf, Sound, placesAt, Payload}
 use Rattle.wire.specs.Format.Payload.{both, luma, chroma}
 use Rattle.wire.proofs.Reading.{Good, head-good, pastEnd-is, read-accepted, read-carried}
@@ -73,7 +72,7 @@ module _ (s : List ℕ) (a e : ℕ) (p : Parts) (f : Sound p) (is : u32At s a �
 
 -- the first number of a payload
 module _ (h t : List ℕ) (four : length h ≡ 4) where
-  kind-is : kindOf (h ++ t) ≡ kindOf h
+  pub kind-is : kindOf (h ++ t) ≡ kindOf h
   kind-is = ap kindIn (u32-front h t (omega arith))
 
   size-is : sizeOf (h ++ t) ≡ sizeOf h

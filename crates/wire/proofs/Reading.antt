@@ -2,8 +2,8 @@
 -- Assumes nothing.
 use Prim.Native.Nat.{ℕ, _+_, _*_, _-_, _≤_, _<_}
 use native.Mathlib.Omega.{arith}
-use mathlib.Core.Path.{_≡_, refl, sym, ap, subst, _∙_}
-use mathlib.Core.Bool.{Bool, true, false, cond, not, _&&_, _||_, true≢false, false≢true}
+use mathlib.Core.Path.{_≡_, refl, sym, ap, _∙_}
+use mathlib.Core.Bool.{Bool, true, false, cond, not, _&&_, _||_}
 use mathlib.Core.List.{List, [], _∷_, _++_}
 use lib.Dec.{ltb, eqb}
 use lib.ListN.{length}
@@ -14,7 +14,6 @@ use Rattle.lent.proofs.Exactly.{nor}
 use Rattle.lent.proofs.Refusal.{refusal-none, refusal-first}
 use Rattle.fields.specs.Fields.{u32At}
 use Rattle.wire.specs.declared.Stream.{Stream}
-use Rattle.wire.specs.declared.Avc444.{Avc444}
 use Rattle.wire.specs.declared.Found.{Found}
 use Rattle.wire.specs.declared.Found.the-variants.{Whole, Past}
 use Rattle.wire.specs.Reading.{kindOf, sizeOf, carriesLuma, carriesChroma, follows, lumaEnd, chromaStart, streamIn, noStream, pastEnd, Values, whole, past, foundOf, streamAt, carriedAt, headTests, headNumberOf, streamsPast, readNumberOf, refusedWith, carriedOf, readOf}

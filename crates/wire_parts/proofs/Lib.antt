@@ -1,2 +1,4 @@
 -- The laws of the parts.
 pub mod Parts
+pub mod Covered
+pub mod Exactly

@@ -1,10 +1,9 @@
 -- Where the parts of a stream lie, and how the calls end.
 -- Assumes nothing.
 use Prim.Native.Nat.{ℕ, _+_, _*_, _≤_, _<_}
-use native.Mathlib.Omega.{arith}
 use mathlib.Core.Path.{_≡_, refl, sym, ap, subst, _∙_}
 use mathlib.Core.Bool.{true, false, not}
-use mathlib.Core.List.{List, [], _∷_}
+use mathlib.Core.List.{List}
 use lib.Dec.{ltb, eqb}
 use lib.ListN.{length}
 use borrow.Author.Tests.{lt-ltb, le-ltb, eq-eqb, ne-eqb}
@@ -12,7 +11,7 @@ use Rattle.lent.specs.Paint.{paint}
 use Rattle.lent.proofs.Bools.{cond-true, cond-false}
 use Rattle.fields.specs.Fields.{u16At}
 use Rattle.wire.specs.declared.Stream.{Stream}
-use Rattle.wire.specs.Reading.{readNumberOf, readOf, Inside}
+use Rattle.wire.specs.Reading.{readNumberOf, Inside}
 use Rattle.wire.proofs.Exactly.{read-inside}
 use Rattle.wire_parts.specs.declared.Which.{Which}
 use Rattle.wire_parts.specs.declared.Which.the-variants.{Luma, Chroma}

@@ -2,13 +2,14 @@
 -- payload"), and one rectangle or pair of it.
 --
 --   streamOf w a, streamIn s w      one of the two streams of an answer, and of the payload s: all 0 where it is not carried, and in a refusal
---   rectBytes, pairBytes, dataBytes the bytes of its rectangles, of its pairs, and its H.264 bytes
+--   partsAt s x, partsOf s w        the bytes of a stream's count, of its rectangles, of its pairs, and its H.264 bytes, each where it stands
+--   carried w kind, streamBytes s w whether a kind carries the stream, and all its bytes, if it is carried
 --   rectangleOf s w i               rectangle i: present where i is below the count, four u16
 --   pairOf s w i                    pair i: a quantiser byte and a quality byte
 --   numbersOf s w out               out with the rectangles' numbers in front, four for each
 --   copyNumberOf s w n              the payload's number, then 6: n numbers are fewer than the rectangles have
 --   CopyOutcome s w out             how the copy ends, refusals included
-use Prim.Native.Nat.{ℕ, _+_, _*_}
+use Prim.Native.Nat.{ℕ, _+_, _*_, _-_}
 use mathlib.Core.Bool.{Bool, true, false, cond, not}
 use mathlib.Core.List.{List, [], _∷_}
 use lib.Dec.{ltb, eqb}
@@ -20,7 +21,8 @@ use Rattle.lent.specs.Refusal.{refusal}
 use Rattle.fields.specs.Fields.{u16At, quantiserIn}
 use Rattle.wire.specs.declared.Stream.{Stream}
 use Rattle.wire.specs.declared.Avc444.{Avc444}
-use Rattle.wire.specs.Reading.{readNumberOf, readOf}
+use Rattle.wire.specs.Reading.{kindOf, carriesLuma, carriesChroma, readNumberOf, readOf}
+use Rattle.wire.specs.Format.{Parts, bytesOf}
 use Rattle.wire_parts.specs.declared.Which.{Which}
 use Rattle.wire_parts.specs.declared.Which.the-variants.{Luma, Chroma}
 use Rattle.wire_parts.specs.declared.Rectangle.{Rectangle}
@@ -33,14 +35,23 @@ streamOf Chroma a = a .chroma
 abbrev pub streamIn : List ℕ → Which → Stream
 streamIn s w = streamOf w (readOf s)
 
-abbrev pub rectBytes : List ℕ → Which → List ℕ
-rectBytes s w = take (8 * streamIn s w .count) (drop (streamIn s w .rects) s)
+abbrev pub partsAt : List ℕ → Stream → Parts
+partsAt s x = record {
+  count = take 4 (drop (x .rects - 4) s);
+  rects = take (8 * x .count) (drop (x .rects) s);
+  pairs = take (2 * x .count) (drop (x .pairs) s);
+  h264 = take (x .length) (drop (x .«data») s);
+}
 
-abbrev pub pairBytes : List ℕ → Which → List ℕ
-pairBytes s w = take (2 * streamIn s w .count) (drop (streamIn s w .pairs) s)
+abbrev pub partsOf : List ℕ → Which → Parts
+partsOf s w = partsAt s (streamIn s w)
 
-abbrev pub dataBytes : List ℕ → Which → List ℕ
-dataBytes s w = take (streamIn s w .length) (drop (streamIn s w .«data») s)
+abbrev pub carried : Which → ℕ → Bool
+carried Luma = carriesLuma
+carried Chroma = carriesChroma
+
+abbrev pub streamBytes : List ℕ → Which → List ℕ
+streamBytes s w = cond (carried w (kindOf s)) (bytesOf (partsOf s w)) []
 
 abbrev pub rectangleIn : ℕ → List ℕ → ℕ → Rectangle
 rectangleIn n s at = record {

@@ -1,3 +1,5 @@
+-- `fields::quantiser_byte` meets its contract: the three fields do not meet, so `|` adds them.
+-- Assumes nothing.
 use Prim.Native.Nat.{_*_, _%_}
 use mathlib.Core.Path.{_∙_}
 use lib.Bits.{bitAnd, bitOr}
@@ -6,19 +8,13 @@ use Rattle.fields.proofs.Fields.{bit-small, byte-is}
 use borrow.Author.Needs.{needs}
 use Rattle.fields.proofs.quantiser_byte.Statement.{statement}
 use Rattle.fields.proofs.quantiser_byte.Tie as tie
-use Rattle.fields.proofs.quantiser_byte.Reads as reads
-use Rattle.fields.proofs.quantiser_byte.Lts as lts
-use Rattle.fields.proofs.bit.Reads as bit-reads
 
--- src/lib.rt:76:5
 bit-requires : tie.Need-bit-requires
 bit-requires c κs = search needs
 
--- src/lib.rt:76:31
 bit-requires-2 : tie.Need-bit-requires-2
 bit-requires-2 c κs = search needs
 
--- src/lib.rt:73:1
 returns : tie.Need-returns
 returns c =
     let q = c .before .before .before .args .q in

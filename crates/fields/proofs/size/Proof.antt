@@ -1,10 +1,9 @@
+-- `fields::size` meets its contract: the mask leaves the low 30 bits.
+-- Assumes nothing.
 use lib.Bits.{and-mask}
 use Rattle.fields.proofs.size.Statement.{statement}
 use Rattle.fields.proofs.size.Tie as tie
-use Rattle.fields.proofs.size.Reads as reads
-use Rattle.fields.proofs.size.Lts as lts
 
--- src/lib.rt:36:1
 returns : tie.Need-returns
 returns c = and-mask (c .args .info) 30
 

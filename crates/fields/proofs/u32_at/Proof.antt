@@ -1,81 +1,62 @@
+-- `fields::u32_at` meets its contract: four bytes never reach past a u32.
+-- Assumes nothing.
 use native.Mathlib.Omega.{arith}
 use Rattle.fields.specs.Fields.{u32At}
 use borrow.Author.Needs.{needs}
 use Rattle.fields.proofs.u32_at.Statement.{statement}
 use Rattle.fields.proofs.u32_at.Tie as tie
-use Rattle.fields.proofs.u32_at.Reads as reads
-use Rattle.fields.proofs.u32_at.Lts as lts
-use Rattle.fields.proofs.wide.Reads as wide-reads
 
--- src/lib.rt:32:10
 shared-slice-read-wide : tie.Need-shared-slice-read-wide
 shared-slice-read-wide c = search needs
 
--- src/lib.rt:32:5
 wide-requires : tie.Need-wide-requires
 wide-requires c κs = search needs
 
--- src/lib.rt:32:26
 add-wide : tie.Need-add-wide
 add-wide c = search needs
 
--- src/lib.rt:32:24
 shared-slice-read-wide-2 : tie.Need-shared-slice-read-wide-2
 shared-slice-read-wide-2 c = search needs
 
--- src/lib.rt:32:19
 wide-requires-2 : tie.Need-wide-requires-2
 wide-requires-2 c κs = search needs
 
--- src/lib.rt:32:19
 mul-result : tie.Need-mul-result
 mul-result c = search needs
 
--- src/lib.rt:32:5
 add-result : tie.Need-add-result
 add-result c = search needs
 
--- src/lib.rt:32:50
 add-wide-2 : tie.Need-add-wide-2
 add-wide-2 c = search needs
 
--- src/lib.rt:32:48
 shared-slice-read-wide-3 : tie.Need-shared-slice-read-wide-3
 shared-slice-read-wide-3 c = search needs
 
--- src/lib.rt:32:43
 wide-requires-3 : tie.Need-wide-requires-3
 wide-requires-3 c κs = search needs
 
--- src/lib.rt:32:43
 mul-result-2 : tie.Need-mul-result-2
 mul-result-2 c = search needs
 
--- src/lib.rt:32:5
 add-result-2 : tie.Need-add-result-2
 add-result-2 c = search needs
 
--- src/lib.rt:32:76
 add-wide-3 : tie.Need-add-wide-3
 add-wide-3 c = search needs
 
--- src/lib.rt:32:74
 shared-slice-read-wide-4 : tie.Need-shared-slice-read-wide-4
 shared-slice-read-wide-4 c = search needs
 
--- src/lib.rt:32:69
 wide-requires-4 : tie.Need-wide-requires-4
 wide-requires-4 c κs = search needs
 
--- src/lib.rt:32:69
 mul-result-3 : tie.Need-mul-result-3
 mul-result-3 c = search needs
 
--- src/lib.rt:32:5
 add-result-3 : tie.Need-add-result-3
 add-result-3 c = search needs
 
--- src/lib.rt:28:1
 returns : tie.Need-returns
 unfolding u32At
 returns c = omega arith

@@ -1,27 +1,21 @@
+-- `wire::find_carried` meets its contract, in both cases.
+-- Assumes nothing.
 use mathlib.Core.Path.{sym, ap, _∙_}
 use Rattle.lent.proofs.Bools.{cond-true, cond-false}
 use Rattle.wire.specs.Reading.{whole}
 use borrow.Author.Needs.{needs}
 use Rattle.wire.proofs.find_carried.Statement.{statement}
 use Rattle.wire.proofs.find_carried.Tie as tie
-use Rattle.wire.proofs.find_carried.Reads as reads
-use Rattle.wire.proofs.find_carried.Lts as lts
-use Rattle.wire.proofs.find_stream.Reads as find-stream-reads
-use Rattle.wire.proofs.none.Reads as none-reads
 
--- src/lib.rt:92:9
 find-stream-requires : tie.Need-find-stream-requires
 find-stream-requires c κs = search needs
 
--- src/lib.rt:92:9
 returns : tie.Need-returns
 returns c = c .find-stream .ensures ∙ sym (cond-true _ _ _ (c .before .if1 .taken))
 
--- src/lib.rt:94:18
 none-requires : tie.Need-none-requires
 none-requires c κs = search needs
 
--- src/lib.rt:87:1
 returns-2 : tie.Need-returns-2
 returns-2 c = ap whole (c .none .ensures) ∙ sym (cond-false _ _ _ (c .before .if1 .left))
 

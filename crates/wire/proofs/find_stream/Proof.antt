@@ -1,57 +1,44 @@
+-- `wire::find_stream` meets its contract: a count that the room divided by ten allows fits, and no product wraps.
+-- Assumes nothing.
 use native.Mathlib.Omega.{arith}
 use Rattle.wire.proofs.Reading.{stream-past, stream-is}
 use borrow.Author.Needs.{needs}
 use Rattle.wire.proofs.find_stream.Statement.{statement}
 use Rattle.wire.proofs.find_stream.Tie as tie
-use Rattle.wire.proofs.find_stream.Reads as reads
-use Rattle.wire.proofs.find_stream.Lts as lts
-use Rattle.fields.proofs.u32_at.Reads as u32-at-reads
 
--- src/lib.rt:66:16
 sub-room : tie.Need-sub-room
 sub-room c = search needs
 
--- src/lib.rt:68:9
 returns : tie.Need-returns
 returns c = stream-past _ _ _ (omega arith)
 
--- src/lib.rt:70:17
 u32-at-requires : tie.Need-u32-at-requires
 u32-at-requires c κs = search needs
 
--- src/lib.rt:70:17
 cast-count : tie.Need-cast-count
 cast-count c = search needs
 
--- src/lib.rt:72:9
 returns-2 : tie.Need-returns-2
 returns-2 c = stream-past _ _ _ (omega arith)
 
--- src/lib.rt:74:17
 add-rects : tie.Need-add-rects
 add-rects c = search needs
 
--- src/lib.rt:75:25
 mul-pairs : tie.Need-mul-pairs
 mul-pairs c = search needs
 
--- src/lib.rt:75:17
 add-pairs : tie.Need-add-pairs
 add-pairs c = search needs
 
--- src/lib.rt:76:24
 mul-data : tie.Need-mul-data
 mul-data c = search needs
 
--- src/lib.rt:76:16
 add-data : tie.Need-add-data
 add-data c = search needs
 
--- src/lib.rt:82:17
 sub-t11 : tie.Need-sub-t11
 sub-t11 c = search needs
 
--- src/lib.rt:62:1
 returns-3 : tie.Need-returns-3
 returns-3 c = stream-is _ _ _ _ (c .before .u32-at .ensures) (omega arith)
 

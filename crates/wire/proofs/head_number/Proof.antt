@@ -1,47 +1,35 @@
+-- `wire::head_number` meets its contract: the tests of the first number, in their order.
+-- Assumes nothing.
 use native.Mathlib.Omega.{arith}
 use Rattle.wire.proofs.Reading.{head-short, head-kind, head-past, head-good}
 use borrow.Author.Needs.{needs}
 use Rattle.wire.proofs.head_number.Statement.{statement}
 use Rattle.wire.proofs.head_number.Tie as tie
-use Rattle.wire.proofs.head_number.Reads as reads
-use Rattle.wire.proofs.head_number.Lts as lts
-use Rattle.fields.proofs.kind.Reads as kind-reads
-use Rattle.fields.proofs.size.Reads as size-reads
-use Rattle.fields.proofs.u32_at.Reads as u32-at-reads
 
--- src/lib.rt:102:9
 returns : tie.Need-returns
 returns c = head-short _ (omega arith)
 
--- src/lib.rt:104:9
 u32-at-requires : tie.Need-u32-at-requires
 u32-at-requires c κs = search needs
 
--- src/lib.rt:105:8
 kind-requires : tie.Need-kind-requires
 kind-requires c κs = search needs
 
--- src/lib.rt:106:9
 returns-2 : tie.Need-returns-2
 returns-2 c = head-kind _ (omega arith) (omega arith)
 
--- src/lib.rt:108:8
 sub-if3 : tie.Need-sub-if3
 sub-if3 c = search needs
 
--- src/lib.rt:108:22
 size-requires : tie.Need-size-requires
 size-requires c κs = search needs
 
--- src/lib.rt:108:22
 cast-if3 : tie.Need-cast-if3
 cast-if3 c = search needs
 
--- src/lib.rt:109:9
 returns-3 : tie.Need-returns-3
 returns-3 c = head-past _ (omega arith) (λ k. omega arith) (omega arith)
 
--- src/lib.rt:98:1
 returns-4 : tie.Need-returns-4
 returns-4 c = head-good _ (omega arith) (λ k. omega arith) (omega arith)
 

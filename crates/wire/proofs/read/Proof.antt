@@ -1,3 +1,5 @@
+-- `wire::read` meets its contract: the first number is sound, then each stream that is carried is found or runs past its end.
+-- Assumes nothing.
 use Prim.Native.Nat.{ℕ, _≤_}
 use native.Mathlib.Nat.{le-refl}
 use mathlib.Core.Path.{_≡_, refl, sym, ap, subst, _∙_}
@@ -9,15 +11,6 @@ use Rattle.wire.proofs.Reading.{head-facts, follows-in, read-refused, l
 use borrow.Author.Needs.{needs}
 use Rattle.wire.proofs.read.Statement.{statement}
 use Rattle.wire.proofs.read.Tie as tie
-use Rattle.wire.proofs.read.Reads as reads
-use Rattle.wire.proofs.read.Lts as lts
-use Rattle.fields.proofs.kind.Reads as kind-reads
-use Rattle.fields.proofs.size.Reads as size-reads
-use Rattle.fields.proofs.u32_at.Reads as u32-at-reads
-use Rattle.wire.proofs.find_carried.Reads as find-carried-reads
-use Rattle.wire.proofs.head_number.Reads as head-number-reads
-use Rattle.wire.proofs.past_first.Reads as past-first-reads
-use Rattle.wire.proofs.refused.Reads as refused-reads
 
 -- what is known once the size is: the payload's first number is sound, and kind and size are its
 good : (c : tie.After-size) → headNumberOf (now (c .before .before .before .before .before .before .args .payload)) ≡ 0
@@ -37,54 +30,42 @@ between c p other is h k =
     let s = now (c .before .before .before .before .before .before .args .payload) in
     subst (λ (x : ℕ). (4 ≤ x) × (x ≤ length s)) (sym (is ∙ (λ i. follows (kind-is c i) (size-is c i) other))) (follows-in s (head-facts s (good c)) other h k)
 
--- src/lib.rt:125:9
 head-number-requires : tie.Need-head-number-requires
 head-number-requires c κs = search needs
 
--- src/lib.rt:127:9
 refused-requires : tie.Need-refused-requires
 refused-requires c κs = search needs
 
--- src/lib.rt:127:9
 returns : tie.Need-returns
 returns c =
     record { answer = c .refused .ensures ∙ read-refused _ _ (c .before .before .head-number .ensures) (c .before .if1 .taken); buffers = refl }
 
--- src/lib.rt:129:9
 u32-at-requires : tie.Need-u32-at-requires
 u32-at-requires c κs = head-facts _ (sym (c .before .head-number .ensures) ∙ c .if1 .left) .four
 
--- src/lib.rt:130:9
 kind-requires : tie.Need-kind-requires
 kind-requires c κs = search needs
 
--- src/lib.rt:131:9
 size-requires : tie.Need-size-requires
 size-requires c κs = search needs
 
--- src/lib.rt:133:53
 past-first-requires : tie.Need-past-first-requires
 past-first-requires c κs = search needs
 
--- src/lib.rt:133:9
 find-carried-requires : tie.Need-find-carried-requires
 find-carried-requires c κs =
     let d = c .before in
     between d _ _ (c .past-first .ensures) (head-facts _ (good d) .four) (le-refl _)
 
--- src/lib.rt:134:22
 enum-known-first : tie.Need-enum-known-first
 enum-known-first c = search needs
 
--- src/lib.rt:135:9
 enum-told : tie.Need-enum-told
 enum-told c = search needs
 
--- src/lib.rt:135:9
 refused-requires-2 : tie.Need-refused-requires-2
 refused-requires-2 c κs = search needs
 
--- src/lib.rt:135:9
 returns-2 : tie.Need-returns-2
 returns-2 c =
     let f = c .before .before .before in
@@ -92,29 +73,23 @@ returns-2 c =
     let says = f .find-carried .ensures ∙ luma-is _ (kind-is d) (size-is d) (f .before .past-first .ensures) in
     record { answer = c .refused2 .ensures ∙ first-past _ (kind-is d) (size-is d) (good d) says (c .before .enum-told .given .1); buffers = refl }
 
--- src/lib.rt:137:51
 past-first-requires-2 : tie.Need-past-first-requires-2
 past-first-requires-2 c κs = search needs
 
--- src/lib.rt:137:9
 find-carried-requires-2 : tie.Need-find-carried-requires-2
 find-carried-requires-2 c κs =
     let d = c .before .before .before .before .before .before in
     (between d _ 4 (c .past-first2 .ensures) (le-refl 4) (head-facts _ (good d) .four) .1, le-refl _)
 
--- src/lib.rt:138:22
 enum-known-second : tie.Need-enum-known-second
 enum-known-second c = search needs
 
--- src/lib.rt:139:9
 enum-told-2 : tie.Need-enum-told-2
 enum-told-2 c = search needs
 
--- src/lib.rt:139:9
 refused-requires-3 : tie.Need-refused-requires-3
 refused-requires-3 c κs = search needs
 
--- src/lib.rt:139:9
 returns-3 : tie.Need-returns-3
 returns-3 c =
     let f = c .before .before .before in
@@ -122,7 +97,6 @@ returns-3 c =
     let says = f .find-carried2 .ensures ∙ chroma-is _ (kind-is d) (size-is d) (f .before .past-first2 .ensures) in
     record { answer = c .refused3 .ensures ∙ second-past _ (kind-is d) (size-is d) (good d) says (c .before .enum-told2 .given .1); buffers = refl }
 
--- src/lib.rt:122:1
 returns-4 : tie.Need-returns-4
 returns-4 c =
     let f = c .before .before .before in

@@ -1,3 +1,5 @@
+-- `wire_parts::copy_rects` meets its contract: the payload's number, then 6, then the copy.
+-- Assumes nothing.
 use Prim.Native.Nat.{ℕ, _*_}
 use native.Mathlib.Omega.{arith}
 use mathlib.Core.Path.{refl, sym, ap, _∙_}
@@ -11,17 +13,10 @@ use Rattle.wire_parts.proofs.Parts.{copy-first, copy-6, copy-0, numbers
 use borrow.Author.Needs.{needs}
 use Rattle.wire_parts.proofs.copy_rects.Statement.{statement}
 use Rattle.wire_parts.proofs.copy_rects.Tie as tie
-use Rattle.wire_parts.proofs.copy_rects.Reads as reads
-use Rattle.wire_parts.proofs.copy_rects.Lts as lts
-use Rattle.wire_parts.proofs.find.Reads as find-reads
-use Rattle.wire_parts.proofs.number.Reads as number-reads
-use Rattle.wire_parts.proofs.put_numbers.Reads as put-numbers-reads
 
--- src/lib.rt:176:9
 number-requires : tie.Need-number-requires
 number-requires c κs = search needs
 
--- src/lib.rt:178:9
 returns : tie.Need-returns
 returns c =
     let a = c .before .before .before .before .args in
@@ -31,11 +26,9 @@ returns c =
       buffers = ap (λ (l : List ℕ). l ∷ []) (lent-refused _ _ _ (λ z. c .if1 .taken (e ∙ z)));
     }
 
--- src/lib.rt:183:9
 find-requires : tie.Need-find-requires
 find-requires c κs = search needs
 
--- src/lib.rt:185:9
 returns-2 : tie.Need-returns-2
 returns-2 c =
     let f = c .before .before in
@@ -45,19 +38,15 @@ returns-2 c =
     let e = copy-6 (now (a .payload)) (a .which) (length (now (a .out))) (sym (b .number .ensures) ∙ f .before .if1 .left) (omega arith) in
     rw e (record { answer = refl; buffers = refl })
 
--- src/lib.rt:190:13
 mul-n : tie.Need-mul-n
 mul-n c = search needs
 
--- src/lib.rt:191:5
 put-numbers-requires : tie.Need-put-numbers-requires
 put-numbers-requires c κs = search needs
 
--- src/lib.rt:171:1
 same-length : tie.Need-same-length
 same-length c = search needs
 
--- src/lib.rt:171:1
 returns-3 : tie.Need-returns-3
 returns-3 c =
     let f = c .before .before .before .before .before .before .before in

@@ -1,3 +1,5 @@
+-- `wire_parts::cut` meets its contract: a part of the lent block, from start on.
+-- Assumes nothing.
 use Prim.Native.Nat.{ℕ}
 use native.Mathlib.Nat.{add-sub-cancel-left}
 use mathlib.Core.Path.{refl, ap}
@@ -6,26 +8,19 @@ use denote.Ref.{now}
 use borrow.Author.Needs.{needs}
 use Rattle.wire_parts.proofs.cut.Statement.{statement}
 use Rattle.wire_parts.proofs.cut.Tie as tie
-use Rattle.wire_parts.proofs.cut.Reads as reads
-use Rattle.wire_parts.proofs.cut.Lts as lts
 
--- src/lib.rt:75:15
 add-end : tie.Need-add-end
 add-end c = search needs
 
--- src/lib.rt:76:5
 sub-result : tie.Need-sub-result
 sub-result c = search needs
 
--- src/lib.rt:76:5
 part-result-start : tie.Need-part-result-start
 part-result-start c = search needs
 
--- src/lib.rt:76:5
 part-result-end : tie.Need-part-result-end
 part-result-end c = search needs
 
--- src/lib.rt:71:1
 returns : tie.Need-returns
 returns c = record {
   block = refl;

@@ -1,3 +1,5 @@
+-- `wire_parts::find` meets its contract: one stream of what `wire::read` answers, whose parts lie inside the payload.
+-- Assumes nothing.
 use mathlib.Core.Path.{sym, ap, subst, _∙_}
 use lib.ListN.{length}
 use denote.Ref.{now}
@@ -8,20 +10,13 @@ use Rattle.wire_parts.proofs.Parts.{inside}
 use borrow.Author.Needs.{needs}
 use Rattle.wire_parts.proofs.find.Statement.{statement}
 use Rattle.wire_parts.proofs.find.Tie as tie
-use Rattle.wire_parts.proofs.find.Reads as reads
-use Rattle.wire_parts.proofs.find.Lts as lts
-use Rattle.wire.proofs.read.Reads as read-reads
-use Rattle.wire_parts.proofs.pick.Reads as pick-reads
 
--- src/lib.rt:67:10
 read-requires : tie.Need-read-requires
 read-requires c κs = search needs
 
--- src/lib.rt:67:5
 pick-requires : tie.Need-pick-requires
 pick-requires c κs = search needs
 
--- src/lib.rt:64:1
 returns : tie.Need-returns
 returns c =
     let a = c .before .before .before .args in

@@ -1,3 +1,5 @@
+-- `wire_parts::pair_at` meets its contract: pair i lies inside the payload where i is below the count.
+-- Assumes nothing.
 use Prim.Native.Nat.{_+_, _*_}
 use native.Mathlib.Omega.{arith}
 use mathlib.Core.Path.{refl, _∙_}
@@ -7,52 +9,37 @@ use Rattle.wire_parts.proofs.Parts.{pair-none, pair-some}
 use borrow.Author.Needs.{needs}
 use Rattle.wire_parts.proofs.pair_at.Statement.{statement}
 use Rattle.wire_parts.proofs.pair_at.Tie as tie
-use Rattle.wire_parts.proofs.pair_at.Reads as reads
-use Rattle.wire_parts.proofs.pair_at.Lts as lts
-use Rattle.fields.proofs.quantiser_in.Reads as quantiser-in-reads
-use Rattle.wire_parts.proofs.find.Reads as find-reads
-use Rattle.wire_parts.proofs.number.Reads as number-reads
 
--- src/lib.rt:134:9
 number-requires : tie.Need-number-requires
 number-requires c κs = search needs
 
--- src/lib.rt:135:9
 find-requires : tie.Need-find-requires
 find-requires c κs = search needs
 
--- src/lib.rt:137:9
 returns : tie.Need-returns
 returns c = record {
   answer = pair-none _ _ _ (c .before .before .before .number .ensures) (c .before .before .find .ensures .0) (omega arith);
   buffers = refl;
 }
 
--- src/lib.rt:146:24
 mul-at : tie.Need-mul-at
 mul-at c = search needs
 
--- src/lib.rt:146:14
 add-at : tie.Need-add-at
 add-at c = search needs
 
--- src/lib.rt:147:34
 shared-slice-read-quantiser-in : tie.Need-shared-slice-read-quantiser-in
 shared-slice-read-quantiser-in c = search needs
 
--- src/lib.rt:147:9
 quantiser-in-requires : tie.Need-quantiser-in-requires
 quantiser-in-requires c κs = search needs
 
--- src/lib.rt:154:26
 add-t9 : tie.Need-add-t9
 add-t9 c = search needs
 
--- src/lib.rt:154:18
 shared-slice-read-t11 : tie.Need-shared-slice-read-t11
 shared-slice-read-t11 c = search needs
 
--- src/lib.rt:131:1
 returns-2 : tie.Need-returns-2
 returns-2 c =
     let q = c .before .quantiser-in .ensures in

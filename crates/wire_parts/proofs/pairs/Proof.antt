@@ -1,3 +1,5 @@
+-- `wire_parts::pairs` meets its contract: the part is cut where the stream's pairs stand.
+-- Assumes nothing.
 use Prim.Native.Nat.{_*_}
 use mathlib.Core.Path.{subst}
 use lib.ListN.{take, drop}
@@ -7,24 +9,16 @@ use Rattle.wire.specs.declared.Stream.{Stream}
 use borrow.Author.Needs.{needs}
 use Rattle.wire_parts.proofs.pairs.Statement.{statement}
 use Rattle.wire_parts.proofs.pairs.Tie as tie
-use Rattle.wire_parts.proofs.pairs.Reads as reads
-use Rattle.wire_parts.proofs.pairs.Lts as lts
-use Rattle.wire_parts.proofs.cut.Reads as cut-reads
-use Rattle.wire_parts.proofs.find.Reads as find-reads
 
--- src/lib.rt:91:9
 find-requires : tie.Need-find-requires
 find-requires c κs = search needs
 
--- src/lib.rt:92:27
 mul-cut : tie.Need-mul-cut
 mul-cut c = search needs
 
--- src/lib.rt:92:5
 cut-requires : tie.Need-cut-requires
 cut-requires c κs = search needs
 
--- src/lib.rt:88:1
 returns : tie.Need-returns
 returns c =
     let p = c .before .before .before .before .args .payload in

@@ -1,3 +1,5 @@
+-- `wire_parts::put_numbers` meets its contract. The invariant: the numbers below i are written, the others as they were.
+-- Assumes nothing.
 use Prim.Native.Nat.{ℕ, _+_, _*_, _-_, _≤_}
 use native.Mathlib.Omega.{arith}
 use mathlib.Core.Path.{_≡_, refl, ap, _∙_}
@@ -9,9 +11,6 @@ use Rattle.lent.proofs.Paint.{paint-none, paint-next}
 use Rattle.fields.specs.Fields.{u16At}
 use Rattle.wire_parts.proofs.put_numbers.Statement.{statement}
 use Rattle.wire_parts.proofs.put_numbers.Tie as tie
-use Rattle.wire_parts.proofs.put_numbers.Reads as reads
-use Rattle.wire_parts.proofs.put_numbers.Lts as lts
-use Rattle.fields.proofs.u16_at.Reads as u16-at-reads
 
 abbrev Inv-loop : tie.InvT-loop
 Inv-loop s at out₀ n i₀ out i = (i ≤ n) × (length out ≡ length out₀) × (out ≡ paint (λ k. ltb k i) (λ k. u16At s (at + 2 * k)) out₀)
@@ -19,49 +18,38 @@ Inv-loop s at out₀ n i₀ out i = (i ≤ n) × (length out ≡ length out₀) 
 abbrev μ-loop : tie.MeasureT-loop
 μ-loop s at out₀ n i₀ out i = n - i
 
--- src/lib.rt:164:5
 loop-holds : tie.Need-loop-holds Inv-loop μ-loop
 loop-holds c = (omega arith, refl, paint-none _ _ _ (λ k h. le-ltb k 0 (omega arith)))
 
--- src/lib.rt:165:41
 mul-u16-at : tie.Need-mul-u16-at Inv-loop μ-loop
 mul-u16-at c = omega arith
 
--- src/lib.rt:165:36
 add-u16-at : tie.Need-add-u16-at Inv-loop μ-loop
 add-u16-at c = omega arith
 
--- src/lib.rt:165:18
 u16-at-requires : tie.Need-u16-at-requires Inv-loop μ-loop
 u16-at-requires c κs = omega arith
 
--- src/lib.rt:165:9
 mul-out : tie.Need-mul-out Inv-loop μ-loop
 mul-out c = omega arith
 
--- src/lib.rt:165:9
 slice-write-out : tie.Need-slice-write-out Inv-loop μ-loop
 slice-write-out c = omega arith
 
--- src/lib.rt:166:9
 add-i : tie.Need-add-i Inv-loop μ-loop
 add-i c = omega arith
 
--- src/lib.rt:164:5
 loop-less : tie.Need-loop-less Inv-loop μ-loop
 loop-less c = omega arith
 
--- src/lib.rt:164:5
 loop-again : tie.Need-loop-again Inv-loop μ-loop
 loop-again c =
     let l = c .before .before in
     (omega arith, simp length-set (omega arith), rw (l .loop .inv .2) (paint-next _ _ (l .loop .i) _ (omega arith) (c .u16-at .ensures)))
 
--- src/lib.rt:159:1
 same-length : tie.Need-same-length Inv-loop μ-loop
 same-length c = omega arith
 
--- src/lib.rt:159:1
 returns : tie.Need-returns Inv-loop μ-loop
 returns c =
     let l = c .before in

@@ -1,3 +1,5 @@
+-- `wire_parts::rectangle_at` meets its contract: rectangle i lies inside the payload where i is below the count.
+-- Assumes nothing.
 use native.Mathlib.Omega.{arith}
 use mathlib.Core.Path.{refl, _∙_}
 use mathlib.Core.Bool.{true}
@@ -5,64 +7,46 @@ use Rattle.wire_parts.proofs.Parts.{rectangle-none, rectangle-some}
 use borrow.Author.Needs.{needs}
 use Rattle.wire_parts.proofs.rectangle_at.Statement.{statement}
 use Rattle.wire_parts.proofs.rectangle_at.Tie as tie
-use Rattle.wire_parts.proofs.rectangle_at.Reads as reads
-use Rattle.wire_parts.proofs.rectangle_at.Lts as lts
-use Rattle.fields.proofs.u16_at.Reads as u16-at-reads
-use Rattle.wire_parts.proofs.find.Reads as find-reads
-use Rattle.wire_parts.proofs.number.Reads as number-reads
 
--- src/lib.rt:107:9
 number-requires : tie.Need-number-requires
 number-requires c κs = search needs
 
--- src/lib.rt:108:9
 find-requires : tie.Need-find-requires
 find-requires c κs = search needs
 
--- src/lib.rt:110:9
 returns : tie.Need-returns
 returns c = record {
   answer = rectangle-none _ _ _ (c .before .before .before .number .ensures) (c .before .before .find .ensures .0) (omega arith);
   buffers = refl;
 }
 
--- src/lib.rt:119:24
 mul-at : tie.Need-mul-at
 mul-at c = search needs
 
--- src/lib.rt:119:14
 add-at : tie.Need-add-at
 add-at c = search needs
 
--- src/lib.rt:123:15
 u16-at-requires : tie.Need-u16-at-requires
 u16-at-requires c κs = search needs
 
--- src/lib.rt:124:38
 add-u16-at : tie.Need-add-u16-at
 add-u16-at c = search needs
 
--- src/lib.rt:124:14
 u16-at-requires-2 : tie.Need-u16-at-requires-2
 u16-at-requires-2 c κs = search needs
 
--- src/lib.rt:125:40
 add-u16-at-2 : tie.Need-add-u16-at-2
 add-u16-at-2 c = search needs
 
--- src/lib.rt:125:16
 u16-at-requires-3 : tie.Need-u16-at-requires-3
 u16-at-requires-3 c κs = search needs
 
--- src/lib.rt:126:41
 add-u16-at-3 : tie.Need-add-u16-at-3
 add-u16-at-3 c = search needs
 
--- src/lib.rt:126:17
 u16-at-requires-4 : tie.Need-u16-at-requires-4
 u16-at-requires-4 c κs = search needs
 
--- src/lib.rt:104:1
 returns-2 : tie.Need-returns-2
 returns-2 c =
     let b = c .before .before .before in
