@@ -88,8 +88,8 @@ module _ (h : List ℕ) (four : length h ≡ 4) where
     both-parts = (
       ap (λ (a : Avc444). partsAt s (a .luma)) is-read ∙ parts-back h (bytesOf c) l 4 f four,
       ap (λ (a : Avc444). partsAt s (a .chroma)) is-read
-      ∙ ap (λ (x : List ℕ). partsAt x (placesAt (4 + length (bytesOf l)) c)) (sym (append-assoc h (bytesOf l) (bytesOf c)))
-      ∙ last-back (h ++ bytesOf l) c (4 + length (bytesOf l)) g (omega (arith, length-append h (bytesOf l))),
+          ∙ ap (λ (x : List ℕ). partsAt x (placesAt (4 + length (bytesOf l)) c)) (sym (append-assoc h (bytesOf l) (bytesOf c)))
+          ∙ last-back (h ++ bytesOf l) c (4 + length (bytesOf l)) g (omega (arith, length-append h (bytesOf l))),
     )
 
   module _ (p : Parts) (z : sizeOf h ≤ length (bytesOf p)) (f : Sound p) where

@@ -18,7 +18,7 @@ use Rattle.wire.specs.Reading.{kindOf, sizeOf, streamsPast, readNumberOf}
 use Rattle.wire_parts.specs.declared.Which.{Which}
 use Rattle.wire_parts.specs.declared.Rectangle.{Rectangle}
 use Rattle.wire_parts.specs.declared.Pair.{Pair}
-use Rattle.wire_parts.specs.Parts.{streamIn, partsOf, rectangleIn, noRectangle, rectangleOf, pairIn, noPair, pairOf, numbersOf, copyNumberOf, CopyOutcome}
+use Rattle.wire_parts.specs.Parts.{placesOf, partsOf, rectangleIn, noRectangle, rectangleOf, pairIn, noPair, pairOf, numbersOf, copyNumberOf, CopyOutcome}
 use Rattle.wire_parts.proofs.Parts.{copy-first, copy-6, copy-0}
 
 -- ---- one end
@@ -28,16 +28,16 @@ abbrev OnePart : RefT (List ℕ) → RefT (List ℕ) → Type 0
 OnePart r q = (r .ptr .0 ≡ q .ptr .0) × (r .ptr .1 ≡ q .ptr .1) × (now r ≡ now q)
 
 module _ (payload : RefT (List ℕ)) (w : Which) (r q : RefT (List ℕ)) where
-  pub rects-unique : OwnPart payload r (streamIn (now payload) w .rects) (partsOf (now payload) w .rects)
-      → OwnPart payload q (streamIn (now payload) w .rects) (partsOf (now payload) w .rects) → OnePart r q
+  pub rects-unique : OwnPart payload r (placesOf (now payload) w .rects) (partsOf (now payload) w .rects)
+      → OwnPart payload q (placesOf (now payload) w .rects) (partsOf (now payload) w .rects) → OnePart r q
   rects-unique x y = ownPart-unique x y
 
-  pub pairs-unique : OwnPart payload r (streamIn (now payload) w .pairs) (partsOf (now payload) w .pairs)
-      → OwnPart payload q (streamIn (now payload) w .pairs) (partsOf (now payload) w .pairs) → OnePart r q
+  pub pairs-unique : OwnPart payload r (placesOf (now payload) w .pairs) (partsOf (now payload) w .pairs)
+      → OwnPart payload q (placesOf (now payload) w .pairs) (partsOf (now payload) w .pairs) → OnePart r q
   pairs-unique x y = ownPart-unique x y
 
-  pub h264-unique : OwnPart payload r (streamIn (now payload) w .«data») (partsOf (now payload) w .h264)
-      → OwnPart payload q (streamIn (now payload) w .«data») (partsOf (now payload) w .h264) → OnePart r q
+  pub h264-unique : OwnPart payload r (placesOf (now payload) w .«data») (partsOf (now payload) w .h264)
+      → OwnPart payload q (placesOf (now payload) w .«data») (partsOf (now payload) w .h264) → OnePart r q
   h264-unique x y = ownPart-unique x y
 
 module _ (s : List ℕ) (w : Which) where
@@ -49,20 +49,20 @@ module _ (s : List ℕ) (w : Which) where
 
   pub copy-unique : (out : List ℕ) (r q : Answer) (rs qs : List (List ℕ)) → CopyOutcome s w out r rs → CopyOutcome s w out q qs → (r ≡ q) × (rs ≡ qs)
   copy-unique =
-      outcome-unique (λ (out : List ℕ). answerOf (copyNumberOf s w (length out)) (4 * streamIn s w .count))
+      outcome-unique (λ (out : List ℕ). answerOf (copyNumberOf s w (length out)) (4 * placesOf s w .count))
       (λ (out : List ℕ). lentAfter (copyNumberOf s w (length out)) out (numbersOf s w out) ∷ [])
 
 -- ---- present
 
 module _ (s : List ℕ) (w : Which) (i : ℕ) where
   abbrev count : ℕ
-  count = streamIn s w .count
+  count = placesOf s w .count
 
   rectangle-test : rectangleOf s w i .present ≡ ltb i count
   unfolding rectangleOf
   rectangle-test = go (ltb i count)
     where
-      go : (b : Bool) → cond b (rectangleIn (readNumberOf s) s (streamIn s w .rects + 8 * i)) (noRectangle (readNumberOf s)) .present ≡ b
+      go : (b : Bool) → cond b (rectangleIn (readNumberOf s) s (placesOf s w .rects + 8 * i)) (noRectangle (readNumberOf s)) .present ≡ b
       go true = refl
       go false = refl
 
@@ -70,7 +70,7 @@ module _ (s : List ℕ) (w : Which) (i : ℕ) where
   unfolding pairOf
   pair-test = go (ltb i count)
     where
-      go : (b : Bool) → cond b (pairIn (readNumberOf s) s (streamIn s w .pairs + 2 * i)) (noPair (readNumberOf s)) .present ≡ b
+      go : (b : Bool) → cond b (pairIn (readNumberOf s) s (placesOf s w .pairs + 2 * i)) (noPair (readNumberOf s)) .present ≡ b
       go true = refl
       go false = refl
 
@@ -95,25 +95,25 @@ no-6 s = go (ltb (length s) 4) (eqb (kindOf s) 3) (ltb (length s) (4 + sizeOf s)
 
 module _ (s : List ℕ) (w : Which) (n : ℕ) where
   -- what the number is: the payload's, and of an accepted one 6 or 0
-  cases : (P : ℕ → Type 0) → ((readNumberOf s ≡ 0 → ⊥) → P (readNumberOf s)) → (readNumberOf s ≡ 0 → n < 4 * streamIn s w .count → P 6)
-      → (readNumberOf s ≡ 0 → 4 * streamIn s w .count ≤ n → P 0) → P (copyNumberOf s w n)
+  cases : (P : ℕ → Type 0) → ((readNumberOf s ≡ 0 → ⊥) → P (readNumberOf s)) → (readNumberOf s ≡ 0 → n < 4 * placesOf s w .count → P 6)
+      → (readNumberOf s ≡ 0 → 4 * placesOf s w .count ≤ n → P 0) → P (copyNumberOf s w n)
   unfolding copyNumberOf
-  cases P first six done = go (eqb (readNumberOf s) 0) (ltb n (4 * streamIn s w .count)) refl refl
+  cases P first six done = go (eqb (readNumberOf s) 0) (ltb n (4 * placesOf s w .count)) refl refl
     where
-      go : (a b : Bool) → eqb (readNumberOf s) 0 ≡ a → ltb n (4 * streamIn s w .count) ≡ b → P (refusal ((not a, readNumberOf s) ∷ (b, 6) ∷ []))
+      go : (a b : Bool) → eqb (readNumberOf s) 0 ≡ a → ltb n (4 * placesOf s w .count) ≡ b → P (refusal ((not a, readNumberOf s) ∷ (b, 6) ∷ []))
       go false b e f = first (eqb-false (readNumberOf s) 0 e)
-      go true true e f = six (eqb-true (readNumberOf s) 0 e) (ltb-true n (4 * streamIn s w .count) f)
-      go true false e f = done (eqb-true (readNumberOf s) 0 e) (ltb-false n (4 * streamIn s w .count) f)
+      go true true e f = six (eqb-true (readNumberOf s) 0 e) (ltb-true n (4 * placesOf s w .count) f)
+      go true false e f = done (eqb-true (readNumberOf s) 0 e) (ltb-false n (4 * placesOf s w .count) f)
 
-  pub copy-0-exactly : (copyNumberOf s w n ≡ 0) ↔ ((readNumberOf s ≡ 0) × (4 * streamIn s w .count ≤ n))
+  pub copy-0-exactly : (copyNumberOf s w n ≡ 0) ↔ ((readNumberOf s ≡ 0) × (4 * placesOf s w .count ≤ n))
   copy-0-exactly = (
-    cases (λ m. m ≡ 0 → (readNumberOf s ≡ 0) × (4 * streamIn s w .count ≤ n)) (λ some e. absurd (some e)) (λ z h e. absurd (omega arith)) (λ z h e. (z, h)),
+    cases (λ m. m ≡ 0 → (readNumberOf s ≡ 0) × (4 * placesOf s w .count ≤ n)) (λ some e. absurd (some e)) (λ z h e. absurd (omega arith)) (λ z h e. (z, h)),
     λ h. copy-0 s w n (h .0) (h .1),
   )
 
-  pub copy-6-exactly : (copyNumberOf s w n ≡ 6) ↔ ((readNumberOf s ≡ 0) × (n < 4 * streamIn s w .count))
+  pub copy-6-exactly : (copyNumberOf s w n ≡ 6) ↔ ((readNumberOf s ≡ 0) × (n < 4 * placesOf s w .count))
   copy-6-exactly = (
-    cases (λ m. m ≡ 6 → (readNumberOf s ≡ 0) × (n < 4 * streamIn s w .count)) (λ some e. absurd (no-6 s e)) (λ z h e. (z, h)) (λ z h e. absurd (omega arith)),
+    cases (λ m. m ≡ 6 → (readNumberOf s ≡ 0) × (n < 4 * placesOf s w .count)) (λ some e. absurd (no-6 s e)) (λ z h e. (z, h)) (λ z h e. absurd (omega arith)),
     λ h. copy-6 s w n (h .0) (h .1),
   )
 

@@ -15,35 +15,35 @@ use Rattle.wire.specs.Reading.{readNumberOf, Inside}
 use Rattle.wire.proofs.Exactly.{read-inside}
 use Rattle.wire_parts.specs.declared.Which.{Which}
 use Rattle.wire_parts.specs.declared.Which.the-variants.{Luma, Chroma}
-use Rattle.wire_parts.specs.Parts.{streamIn, rectangleIn, noRectangle, rectangleOf, pairIn, noPair, pairOf, numbersOf, copyNumberOf}
+use Rattle.wire_parts.specs.Parts.{placesOf, rectangleIn, noRectangle, rectangleOf, pairIn, noPair, pairOf, numbersOf, copyNumberOf}
 
-pub inside : (s : List ℕ) (w : Which) → Inside (streamIn s w) (length s)
+pub inside : (s : List ℕ) (w : Which) → Inside (placesOf s w) (length s)
 inside s Luma = read-inside s .0
 inside s Chroma = read-inside s .1
 
 -- one rectangle and one pair, from what the calls found: n is the number, x the stream
-module _ (s : List ℕ) (w : Which) (i : ℕ) {n : ℕ} {x : Stream} (is-number : n ≡ readNumberOf s) (is-stream : x ≡ streamIn s w) where
-  present : i < x .count → ltb i (streamIn s w .count) ≡ true
-  present h = lt-ltb i (streamIn s w .count) (subst (λ (y : Stream). i < y .count) is-stream h)
+module _ (s : List ℕ) (w : Which) (i : ℕ) {n : ℕ} {x : Stream} (is-number : n ≡ readNumberOf s) (is-stream : x ≡ placesOf s w) where
+  present : i < x .count → ltb i (placesOf s w .count) ≡ true
+  present h = lt-ltb i (placesOf s w .count) (subst (λ (y : Stream). i < y .count) is-stream h)
 
-  absent : x .count ≤ i → ltb i (streamIn s w .count) ≡ false
-  absent h = le-ltb i (streamIn s w .count) (subst (λ (y : Stream). y .count ≤ i) is-stream h)
+  absent : x .count ≤ i → ltb i (placesOf s w .count) ≡ false
+  absent h = le-ltb i (placesOf s w .count) (subst (λ (y : Stream). y .count ≤ i) is-stream h)
 
   pub rectangle-none : x .count ≤ i → noRectangle n ≡ rectangleOf s w i
   unfolding rectangleOf
-  rectangle-none h = ap noRectangle is-number ∙ sym (cond-false (ltb i (streamIn s w .count)) _ _ (absent h))
+  rectangle-none h = ap noRectangle is-number ∙ sym (cond-false (ltb i (placesOf s w .count)) _ _ (absent h))
 
   pub rectangle-some : i < x .count → rectangleIn n s (x .rects + 8 * i) ≡ rectangleOf s w i
   unfolding rectangleOf
-  rectangle-some h = (λ j. rectangleIn (is-number j) s (is-stream j .rects + 8 * i)) ∙ sym (cond-true (ltb i (streamIn s w .count)) _ _ (present h))
+  rectangle-some h = (λ j. rectangleIn (is-number j) s (is-stream j .rects + 8 * i)) ∙ sym (cond-true (ltb i (placesOf s w .count)) _ _ (present h))
 
   pub pair-none : x .count ≤ i → noPair n ≡ pairOf s w i
   unfolding pairOf
-  pair-none h = ap noPair is-number ∙ sym (cond-false (ltb i (streamIn s w .count)) _ _ (absent h))
+  pair-none h = ap noPair is-number ∙ sym (cond-false (ltb i (placesOf s w .count)) _ _ (absent h))
 
   pub pair-some : i < x .count → pairIn n s (x .pairs + 2 * i) ≡ pairOf s w i
   unfolding pairOf
-  pair-some h = (λ j. pairIn (is-number j) s (is-stream j .pairs + 2 * i)) ∙ sym (cond-true (ltb i (streamIn s w .count)) _ _ (present h))
+  pair-some h = (λ j. pairIn (is-number j) s (is-stream j .pairs + 2 * i)) ∙ sym (cond-true (ltb i (placesOf s w .count)) _ _ (present h))
 
 -- the number of the copy
 module _ (s : List ℕ) (w : Which) (n : ℕ) where
@@ -51,14 +51,14 @@ module _ (s : List ℕ) (w : Which) (n : ℕ) where
   unfolding copyNumberOf
   copy-first e some = e ∙ sym (cond-true (not (eqb (readNumberOf s) 0)) _ _ (ap not (ne-eqb (readNumberOf s) 0 (λ z. some (e ∙ z)))))
 
-  pub copy-6 : readNumberOf s ≡ 0 → n < 4 * streamIn s w .count → copyNumberOf s w n ≡ 6
+  pub copy-6 : readNumberOf s ≡ 0 → n < 4 * placesOf s w .count → copyNumberOf s w n ≡ 6
   unfolding copyNumberOf
-  copy-6 e h = simp (eq-eqb (readNumberOf s) 0 e, lt-ltb n (4 * streamIn s w .count) h) refl
+  copy-6 e h = simp (eq-eqb (readNumberOf s) 0 e, lt-ltb n (4 * placesOf s w .count) h) refl
 
-  pub copy-0 : readNumberOf s ≡ 0 → 4 * streamIn s w .count ≤ n → copyNumberOf s w n ≡ 0
+  pub copy-0 : readNumberOf s ≡ 0 → 4 * placesOf s w .count ≤ n → copyNumberOf s w n ≡ 0
   unfolding copyNumberOf
-  copy-0 e h = simp (eq-eqb (readNumberOf s) 0 e, le-ltb n (4 * streamIn s w .count) h) refl
+  copy-0 e h = simp (eq-eqb (readNumberOf s) 0 e, le-ltb n (4 * placesOf s w .count) h) refl
 
-pub numbers-are : (s : List ℕ) (w : Which) (out : List ℕ) (x : Stream) → x ≡ streamIn s w → paint (λ k. ltb k (4 * x .count)) (λ k. u16At s (x .rects + 2 * k)) out ≡ numbersOf s w out
+pub numbers-are : (s : List ℕ) (w : Which) (out : List ℕ) (x : Stream) → x ≡ placesOf s w → paint (λ k. ltb k (4 * x .count)) (λ k. u16At s (x .rects + 2 * k)) out ≡ numbersOf s w out
 unfolding numbersOf
 numbers-are s w out x is = ap (λ (y : Stream). paint (λ k. ltb k (4 * y .count)) (λ k. u16At s (y .rects + 2 * k)) out) is

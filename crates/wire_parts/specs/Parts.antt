@@ -1,7 +1,7 @@
 -- The parts of a stream of an AVC444 payload (document 02, E1: "The answer shows the rectangles, pairs and H.264 bytes as parts of the
 -- payload"), and one rectangle or pair of it.
 --
---   streamOf w a, streamIn s w      one of the two streams of an answer, and of the payload s: all 0 where it is not carried, and in a refusal
+--   streamOf w a, placesOf s w      one of the two streams of an answer, and of the payload s: all 0 where it is not carried, and in a refusal
 --   partsAt s x, partsOf s w        the bytes of a stream's count, of its rectangles, of its pairs, and its H.264 bytes, each where it stands
 --   carried w kind, streamBytes s w whether a kind carries the stream, and all its bytes, if it is carried
 --   rectangleOf s w i               rectangle i: present where i is below the count, four u16
@@ -32,8 +32,8 @@ abbrev pub streamOf : Which → Avc444 → Stream
 streamOf Luma a = a .luma
 streamOf Chroma a = a .chroma
 
-abbrev pub streamIn : List ℕ → Which → Stream
-streamIn s w = streamOf w (readOf s)
+abbrev pub placesOf : List ℕ → Which → Stream
+placesOf s w = streamOf w (readOf s)
 
 abbrev pub partsAt : List ℕ → Stream → Parts
 partsAt s x = record {
@@ -44,7 +44,7 @@ partsAt s x = record {
 }
 
 abbrev pub partsOf : List ℕ → Which → Parts
-partsOf s w = partsAt s (streamIn s w)
+partsOf s w = partsAt s (placesOf s w)
 
 abbrev pub carried : Which → ℕ → Bool
 carried Luma = carriesLuma
@@ -67,7 +67,7 @@ abbrev pub noRectangle : ℕ → Rectangle
 noRectangle n = record { number = n; present = false; left = 0; top = 0; right = 0; bottom = 0 }
 
 unfoldable pub rectangleOf : List ℕ → Which → ℕ → Rectangle
-rectangleOf s w i = cond (ltb i (streamIn s w .count)) (rectangleIn (readNumberOf s) s (streamIn s w .rects + 8 * i)) (noRectangle (readNumberOf s))
+rectangleOf s w i = cond (ltb i (placesOf s w .count)) (rectangleIn (readNumberOf s) s (placesOf s w .rects + 8 * i)) (noRectangle (readNumberOf s))
 
 abbrev pub pairIn : ℕ → List ℕ → ℕ → Pair
 pairIn n s at = record {
@@ -83,14 +83,14 @@ abbrev pub noPair : ℕ → Pair
 noPair n = record { number = n; present = false; value = 0; reserved = false; progressive = false; quality = 0 }
 
 unfoldable pub pairOf : List ℕ → Which → ℕ → Pair
-pairOf s w i = cond (ltb i (streamIn s w .count)) (pairIn (readNumberOf s) s (streamIn s w .pairs + 2 * i)) (noPair (readNumberOf s))
+pairOf s w i = cond (ltb i (placesOf s w .count)) (pairIn (readNumberOf s) s (placesOf s w .pairs + 2 * i)) (noPair (readNumberOf s))
 
 unfoldable pub numbersOf : List ℕ → Which → List ℕ → List ℕ
-numbersOf s w out = paint (λ k. ltb k (4 * streamIn s w .count)) (λ k. u16At s (streamIn s w .rects + 2 * k)) out
+numbersOf s w out = paint (λ k. ltb k (4 * placesOf s w .count)) (λ k. u16At s (placesOf s w .rects + 2 * k)) out
 
 unfoldable pub copyNumberOf : List ℕ → Which → ℕ → ℕ
-copyNumberOf s w n = refusal ((not (eqb (readNumberOf s) 0), readNumberOf s) ∷ (ltb n (4 * streamIn s w .count), 6) ∷ [])
+copyNumberOf s w n = refusal ((not (eqb (readNumberOf s) 0), readNumberOf s) ∷ (ltb n (4 * placesOf s w .count), 6) ∷ [])
 
 abbrev pub CopyOutcome : List ℕ → Which → List ℕ → Answer → List (List ℕ) → Type 0
 CopyOutcome s w out =
-    Outcome (answerOf (copyNumberOf s w (length out)) (4 * streamIn s w .count)) (lentAfter (copyNumberOf s w (length out)) out (numbersOf s w out) ∷ [])
+    Outcome (answerOf (copyNumberOf s w (length out)) (4 * placesOf s w .count)) (lentAfter (copyNumberOf s w (length out)) out (numbersOf s w out) ∷ [])

@@ -12,7 +12,7 @@ ghost use Rattle.lent.specs.Outcome.{Outcome, OwnPart};
 ghost use Rattle.lent.specs.Paint.{paint};
 ghost use Rattle.fields.specs.Fields.{u16At};
 ghost use Rattle.wire.specs.Reading.{readNumberOf, Inside};
-ghost use Rattle.wire_parts.specs.Parts.{streamOf, streamIn, partsOf, rectangleOf, pairOf, CopyOutcome};
+ghost use Rattle.wire_parts.specs.Parts.{streamOf, placesOf, partsOf, rectangleOf, pairOf, CopyOutcome};
 use wire::Stream;
 
 // One of the two streams that a payload may carry.
@@ -62,7 +62,7 @@ pub fn number(payload: &[u8]) -> u32
 
 // Where the parts of a stream stand.
 fn find(payload: &[u8], which: Which) -> Stream
-    ensures { λ r. ⌜ (r ≡ streamIn (now (payload .entry)) which) × Inside r (length (now (payload .entry))) ⌝ }
+    ensures { λ r. ⌜ (r ≡ placesOf (now (payload .entry)) which) × Inside r (length (now (payload .entry))) ⌝ }
 {
     pick(wire::read(payload), which)
 }
@@ -78,7 +78,7 @@ fn cut<'a>(payload: &'a [u8], start: usize, n: usize) -> &'a [u8]
 
 // The rectangles of a stream, eight bytes each.
 pub fn rects<'a>(payload: &'a [u8], which: Which) -> &'a [u8]
-    ensures { λ r. ⌜ OwnPart (payload .entry) r (streamIn (now (payload .entry)) which .rects) (partsOf (now (payload .entry)) which .rects) ⌝ }
+    ensures { λ r. ⌜ OwnPart (payload .entry) r (placesOf (now (payload .entry)) which .rects) (partsOf (now (payload .entry)) which .rects) ⌝ }
 {
     let x = find(payload, which);
     cut(payload, x.rects, 8 * x.count)
@@ -86,7 +86,7 @@ pub fn rects<'a>(payload: &'a [u8], which: Which) -> &'a [u8]
 
 // The pairs of a stream, two bytes each.
 pub fn pairs<'a>(payload: &'a [u8], which: Which) -> &'a [u8]
-    ensures { λ r. ⌜ OwnPart (payload .entry) r (streamIn (now (payload .entry)) which .pairs) (partsOf (now (payload .entry)) which .pairs) ⌝ }
+    ensures { λ r. ⌜ OwnPart (payload .entry) r (placesOf (now (payload .entry)) which .pairs) (partsOf (now (payload .entry)) which .pairs) ⌝ }
 {
     let x = find(payload, which);
     cut(payload, x.pairs, 2 * x.count)
@@ -94,7 +94,7 @@ pub fn pairs<'a>(payload: &'a [u8], which: Which) -> &'a [u8]
 
 // The H.264 bytes of a stream.
 pub fn h264<'a>(payload: &'a [u8], which: Which) -> &'a [u8]
-    ensures { λ r. ⌜ OwnPart (payload .entry) r (streamIn (now (payload .entry)) which .«data») (partsOf (now (payload .entry)) which .h264) ⌝ }
+    ensures { λ r. ⌜ OwnPart (payload .entry) r (placesOf (now (payload .entry)) which .«data») (partsOf (now (payload .entry)) which .h264) ⌝ }
 {
     let x = find(payload, which);
     cut(payload, x.data, x.length)
