@@ -3,7 +3,7 @@
  * What a caller owes, and no call can check:
  *
  *   - A length is true: the buffer has at least as many elements as the count beside its pointer says.
- *     Counts are in elements: bytes, or in `rects` numbers of 16 bits.
+ *     Counts are in elements: bytes or, where the pointer is to uint16_t, numbers of 16 bits.
  *   - A buffer that is written overlaps no other buffer of the same call. Buffers that are only read may overlap.
  *
  * A pointer with count 0 may be null. Nothing else is owed. Every call is proved total: for any sizes, strides, lists, lengths
@@ -25,6 +25,11 @@
  *             height) rounded up to even: the 2x2 blocks that it touches. An empty rectangle may widen to something:
  *             (5, 0, 5, 4) takes chroma columns 4 and 5.
  *   RGBA      four bytes a pixel, row after row with nothing between.
+ *   payload   (AVC444) what the wire carries, RFX_AVC444_BITMAP_STREAM of MS-RDPEGFX 2.2.4.5; V2 has the same frame. First a
+ *             number of 32 bits: its low 30 bits are the size, its top two bits the kind (0 luma and chroma, 1 luma alone,
+ *             2 chroma alone). Then the streams that the kind says. All numbers in it are little-endian.
+ *   stream    of such a payload: a count of 32 bits, that many rectangles of four numbers of 16 bits (left, top, right, bottom),
+ *             that many pairs of a quantiser byte and a quality byte, and then its H.264 bytes, to the stream's end.
  *
  * Link with libhaythaw.a, which oracle/library.sh makes for this machine. It is for machines whose size_t has 64 bits.
  */
@@ -45,17 +50,21 @@ typedef char haythaw_size_t_has_64_bits[sizeof(size_t) == 8 ? 1 : -1];
 
 /* The numbers that a call may answer. Where several would be true, a call answers the first in the order beside its name. */
 enum haythaw_number {
-    HAYTHAW_DONE = 0,         /* done */
-    HAYTHAW_PLANE_SHORT = 1,  /* a lent picture plane is shorter than stride x rows */
-    HAYTHAW_RGBA_SHORT = 2,   /* RGBA input is shorter than width x height x 4 */
-    HAYTHAW_VIEW_NARROW = 3,  /* a view's luma stride is below its width, or its chroma stride below its chroma width */
-    HAYTHAW_VIEW_SHORT = 4,   /* a view's plane is shorter than its stride x its plane height, however large that product */
-    HAYTHAW_SPLIT_LARGE = 5,  /* split: stride or rows is above 65,535 */
-    HAYTHAW_OUTPUT_SHORT = 6, /* an output buffer is shorter than what would be written */
-    HAYTHAW_LIST_UNEVEN = 7   /* the list's length is not a multiple of 4 */
+    HAYTHAW_DONE = 0,          /* done */
+    HAYTHAW_PLANE_SHORT = 1,   /* a lent picture plane is shorter than stride x rows */
+    HAYTHAW_RGBA_SHORT = 2,    /* RGBA input is shorter than width x height x 4 */
+    HAYTHAW_VIEW_NARROW = 3,   /* a view's luma stride is below its width, or its chroma stride below its chroma width */
+    HAYTHAW_VIEW_SHORT = 4,    /* a view's plane is shorter than its stride x its plane height, however large that product */
+    HAYTHAW_SPLIT_LARGE = 5,   /* split: stride or rows is above 65,535 */
+    HAYTHAW_OUTPUT_SHORT = 6,  /* an output buffer is shorter than what would be written */
+    HAYTHAW_LIST_UNEVEN = 7,   /* the list's length is not a multiple of 4 */
+    HAYTHAW_KIND_UNKNOWN = 8,  /* an AVC444 payload is of kind 3 */
+    HAYTHAW_PAYLOAD_SHORT = 9, /* an AVC444 payload is below 4 bytes, or its size runs past it */
+    HAYTHAW_STREAM_SHORT = 10  /* the count, a rectangle or a pair of a stream runs past that stream */
 };
 
-/* A number and how many bytes were written. In a refusal the count is 0. */
+/* A number and how many elements were written: bytes or, where the output is of uint16_t, numbers of 16 bits. In a refusal the
+ * count is 0. */
 typedef struct haythaw_answer {
     uint32_t number;
     size_t count;
@@ -80,6 +89,49 @@ typedef struct haythaw_views {
     size_t luma_stride;
     size_t chroma_stride;
 } haythaw_views;
+
+/* Where the parts of a stream are, in the caller's own payload: `count` rectangles of 8 bytes from `rects` on, as many pairs of
+ * 2 bytes from `pairs` on, and `length` H.264 bytes from `data` on. The three starts count from the payload's first byte. Each
+ * part begins where the one before it ends, and all lie in the payload. */
+typedef struct haythaw_stream {
+    size_t count;
+    size_t rects;
+    size_t pairs;
+    size_t data;
+    size_t length;
+} haythaw_stream;
+
+/* What a payload carries. A stream that is not carried, and everything but the number in a refusal, is 0. It stands for a count
+ * that is always 0. */
+typedef struct haythaw_avc444 {
+    uint32_t number;
+    uint32_t kind;
+    haythaw_stream luma;
+    haythaw_stream chroma;
+} haythaw_avc444;
+
+/* A rectangle of a stream. One that the stream does not have is no refusal: number 0, not present, and all four are 0. In a
+ * refusal present is false and all four are 0. It stands for a count that is always 0. */
+typedef struct haythaw_rectangle {
+    uint32_t number;
+    bool present;
+    uint16_t left;
+    uint16_t top;
+    uint16_t right;
+    uint16_t bottom;
+} haythaw_rectangle;
+
+/* A pair of a stream. Of the quantiser byte, `value` is the low six bits, `reserved` bit 6 and `progressive` bit 7; `quality` is
+ * the other byte. A pair that the stream does not have is no refusal: number 0, not present, the rest 0 and false. In a refusal
+ * present is false and the rest 0 and false too. It stands for a count that is always 0. */
+typedef struct haythaw_pair {
+    uint32_t number;
+    bool present;
+    uint8_t value;
+    bool reserved;
+    bool progressive;
+    uint8_t quality;
+} haythaw_pair;
 
 /* A uint32_t result below is a number of the table and stands for a count that is always 0. */
 
@@ -188,6 +240,36 @@ haythaw_row haythaw_v_row(uint16_t view_width, uint16_t view_height, size_t luma
 haythaw_answer haythaw_view_to_rgba(uint16_t view_width, uint16_t view_height, size_t luma_stride, size_t chroma_stride,
                                     const uint8_t *view_y, size_t view_y_count, const uint8_t *view_u, size_t view_u_count,
                                     const uint8_t *view_v, size_t view_v_count, uint8_t *out, size_t out_count);
+
+/* ---- The AVC444 payload ----
+ *
+ * In kind 0 the luma stream is the `size` bytes after the first number, and the chroma stream is what follows it. In kinds 1 and 2
+ * the one stream runs to the payload's end, and the size is not used beyond the test that it does not run past the payload. The
+ * standard wants in it the first stream's bytes for kinds 0 and 1, the count, rectangles and pairs included, and 0 for kind 2.
+ *
+ * All seven refuse in this order: 9 when the payload is below 4 bytes, 8 when the kind is 3, 9 when the size, in any kind, runs
+ * past the payload, 10 when the count, a rectangle or a pair of a stream that is carried runs past that stream. So kind 0 with a
+ * size below 4 is always refused. They only read the payload, and of its rectangles and pairs those alone that they answer: a
+ * count by itself costs no time, however large. */
+
+/* Which streams a payload carries, and where their parts are in it.
+ * Answers 0, 9, 8 or 10, in the order above. Writes nothing. */
+haythaw_avc444 haythaw_avc444_read(const uint8_t *payload, size_t payload_count);
+
+/* Rectangle i of the luma stream and of the chroma stream, counted from 0: present where i is below the stream's count.
+ * Answer 0, 9, 8 or 10, in the order above; any i may be asked for. Write nothing. */
+haythaw_rectangle haythaw_avc444_luma_rectangle(const uint8_t *payload, size_t payload_count, size_t i);
+haythaw_rectangle haythaw_avc444_chroma_rectangle(const uint8_t *payload, size_t payload_count, size_t i);
+
+/* Pair i of the luma stream and of the chroma stream, likewise. */
+haythaw_pair haythaw_avc444_luma_pair(const uint8_t *payload, size_t payload_count, size_t i);
+haythaw_pair haythaw_avc444_chroma_pair(const uint8_t *payload, size_t payload_count, size_t i);
+
+/* All rectangles of the luma stream and of the chroma stream as a list, which the calls that apply a view take.
+ * Answer 0, the refusals above in their order, then 6; the count is the numbers written, 4 x the stream's count, so 0 for a stream
+ * that is not carried. Write the first count numbers of out; numbers after them stay. */
+haythaw_answer haythaw_avc444_luma_rects(const uint8_t *payload, size_t payload_count, uint16_t *out, size_t out_count);
+haythaw_answer haythaw_avc444_chroma_rects(const uint8_t *payload, size_t payload_count, uint16_t *out, size_t out_count);
 
 /* ---- The form of an H.264 payload ---- */
 
