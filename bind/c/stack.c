@@ -1,7 +1,7 @@
 /* How much stack each call uses: it runs on a stack of its own that is painted before, and the lowest byte that has changed
- * says how far down it went. Counted from the frame of the function that makes the call, so its arguments on the stack and the
- * return address are in the number. Each call is run once before, so that the dynamic linker has bound memcpy and memset, and
- * then with two paints, in case the call writes one of them. Run by hand:
+ * says how far down it went. Counted from the frame of the function that makes the call, so its arguments on the stack, a result
+ * that is returned in memory and the return address are in the number. Each call is run once before, so that the dynamic linker
+ * has bound memcpy and memset, and then with two paints, in case the call writes one of them. Run by hand:
  *
  *   cc -std=c99 -O1 -Wall -Wextra -Wpedantic bind/c/stack.c oracle/build/libhaythaw.a -o stack && ./stack */
 #define _DEFAULT_SOURCE
@@ -41,11 +41,19 @@ ALONE(do_v_row, haythaw_v_row(A_VIEW, a->row))
 ALONE(do_view_to_rgba, haythaw_view_to_rgba(A_VIEW, LENT(OUT)))
 ALONE(do_is_avc, haythaw_is_avc_format(LENT(DATA)))
 ALONE(do_annex_b, haythaw_avc_to_annex_b(LENT(DATA), LENT(OUT)))
+ALONE(do_read, haythaw_avc444_read(LENT(PAYLOAD)))
+ALONE(do_luma_rectangle, haythaw_avc444_luma_rectangle(LENT(PAYLOAD), a->i))
+ALONE(do_chroma_rectangle, haythaw_avc444_chroma_rectangle(LENT(PAYLOAD), a->i))
+ALONE(do_luma_pair, haythaw_avc444_luma_pair(LENT(PAYLOAD), a->i))
+ALONE(do_chroma_pair, haythaw_avc444_chroma_pair(LENT(PAYLOAD), a->i))
+ALONE(do_luma_rects, haythaw_avc444_luma_rects(LENT(PAYLOAD), LENT(NUMBERS)))
+ALONE(do_chroma_rects, haythaw_avc444_chroma_rects(LENT(PAYLOAD), LENT(NUMBERS)))
 ALONE(do_allocation_size, haythaw_allocation_size(a->width, a->height))
 
 static void (*const alone[CALLS + 1])(const Args *) = {
     do_new, do_from_rgba, do_to_rgba, do_main, do_aux_v1, do_aux_v2, do_split_v1, do_split_v2, do_view,
-    do_luma_row, do_u_row, do_v_row, do_view_to_rgba, do_is_avc, do_annex_b, do_allocation_size};
+    do_luma_row, do_u_row, do_v_row, do_view_to_rgba, do_is_avc, do_annex_b, do_read, do_luma_rectangle, do_chroma_rectangle,
+    do_luma_pair, do_chroma_pair, do_luma_rects, do_chroma_rects, do_allocation_size};
 
 static void on_its_own_stack(void)
 {
@@ -68,6 +76,13 @@ static size_t depth(enum call call, const Args *a, uint8_t paint)
     return (size_t)(from - deepest);
 }
 
+static void put_u32(uint8_t *bytes, uint32_t number)
+{
+    for (int k = 0; k < 4; k++)
+        bytes[k] = (uint8_t)(number >> 8 * k);
+}
+
+/* An AVC444 payload goes with a picture: two streams, each with as many rectangles as the picture has columns, all zero. */
 static Args of_size(uint16_t width, uint16_t height)
 {
     static const uint16_t rects[8] = {1, 1, 65535, 65535, 0, 0, 7, 7};
@@ -85,13 +100,21 @@ static Args of_size(uint16_t width, uint16_t height)
     memcpy(a.at[RECTS], rects, sizeof rects);
     a.count[RECTS] = 8;
     a.at[DATA] = units, a.count[DATA] = sizeof units;
+    const uint32_t stream = 4 + 10u * width;
+    uint8_t *const payload = a.at[PAYLOAD];
+    put_u32(payload, stream);
+    put_u32(payload + 4, width);
+    put_u32(payload + 4 + stream, width);
+    a.count[PAYLOAD] = 4 + 2 * stream;
+    a.count[NUMBERS] /= 2;
+    a.i = width - 1u;
     return a;
 }
 
 int main(void)
 {
     const Args tiny = of_size(2, 2), large = of_size(1920, 1080);
-    printf("%-20s %10s %10s\n", "call, bytes", "2x2", "1920x1080");
+    printf("%-24s %10s %10s\n", "call, bytes", "2x2", "1920x1080");
     for (int call = 0; call <= CALLS; call++) {
         const Args *const sizes[2] = {&tiny, &large};
         size_t most[2];
@@ -101,7 +124,7 @@ int main(void)
             const size_t one = depth((enum call)call, sizes[k], 0xA5), two = depth((enum call)call, sizes[k], 0x3C);
             most[k] = one > two ? one : two;
         }
-        printf("%-20s %10zu %10zu\n", call < CALLS ? call_names[call] : "allocation_size", most[0], most[1]);
+        printf("%-24s %10zu %10zu\n", call < CALLS ? call_names[call] : "allocation_size", most[0], most[1]);
     }
     return 0;
 }

@@ -9,6 +9,7 @@
 #include "test/by_hand.h"
 #include "test/lengths.h"
 #include "test/sizes.h"
+#include "test/wire.h"
 
 /* One function of each result type, before anything else: a result that this machine returns in another way than the library does
  * would be wrong here. */
@@ -31,6 +32,20 @@ static void each_result_type(void)
     views = haythaw_split_v2(16, 1, p, 256, p, 256, p, 256, my, 256, mu, 64, mv, 64, ay, 256, au, 64, av, 64);
     check(views.number == HAYTHAW_DONE && views.width == 16 && views.height == 16 && views.luma_stride == 16 && views.chroma_stride == 8,
           "split_v2", "a haythaw_views");
+    /* chroma alone: one rectangle, its pair, one H.264 byte */
+    const uint8_t payload[19] = {0, 0, 0, 0x80, 1, 0, 0, 0, 1, 2, 3, 4, 5, 6, 7, 8, 0xC9, 10, 11};
+    haythaw_avc444 read = haythaw_avc444_read(payload, 19);
+    check(read.number == HAYTHAW_DONE && read.kind == 2 && read.luma.count == 0 && read.luma.rects == 0 && read.luma.pairs == 0 &&
+              read.luma.data == 0 && read.luma.length == 0 && read.chroma.count == 1 && read.chroma.rects == 8 &&
+              read.chroma.pairs == 16 && read.chroma.data == 18 && read.chroma.length == 1,
+          "avc444_read", "a haythaw_avc444");
+    haythaw_rectangle rectangle = haythaw_avc444_chroma_rectangle(payload, 19, 0);
+    check(rectangle.number == HAYTHAW_DONE && rectangle.present && rectangle.left == 0x201 && rectangle.top == 0x403 &&
+              rectangle.right == 0x605 && rectangle.bottom == 0x807,
+          "avc444_chroma_rectangle", "a haythaw_rectangle");
+    haythaw_pair pair = haythaw_avc444_chroma_pair(payload, 19, 0);
+    check(pair.number == HAYTHAW_DONE && pair.present && pair.value == 9 && pair.reserved && pair.progressive && pair.quality == 10,
+          "avc444_chroma_pair", "a haythaw_pair");
 }
 
 /* A picture of noise is split both ways and applied, main then auxiliary, over a rectangle with an odd left edge to a copy of an
@@ -97,6 +112,10 @@ int main(int words, char **word)
         rows_by_hand();
         view_to_rgba_by_hand();
         payloads_by_hand();
+        wires_by_hand();
+        parts_by_hand();
+        quantisers();
+        prefixes();
         for (int call = NEW; call < CALLS; call++)
             if (needs[call].used > 0)
                 lengths_of((enum call)call);

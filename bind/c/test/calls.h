@@ -6,21 +6,27 @@
 #include "../haythaw.h"
 
 enum call {
-    NEW, FROM_RGBA, TO_RGBA, MAIN, AUX_V1, AUX_V2, SPLIT_V1, SPLIT_V2, VIEW, LUMA_ROW, U_ROW, V_ROW, VIEW_TO_RGBA, IS_AVC, ANNEX_B, CALLS
+    NEW, FROM_RGBA, TO_RGBA, MAIN, AUX_V1, AUX_V2, SPLIT_V1, SPLIT_V2, VIEW, LUMA_ROW, U_ROW, V_ROW, VIEW_TO_RGBA, IS_AVC, ANNEX_B,
+    READ, LUMA_RECTANGLE, CHROMA_RECTANGLE, LUMA_PAIR, CHROMA_PAIR, LUMA_RECTS, CHROMA_RECTS, CALLS
 };
 static const char *const call_names[CALLS] = {
     "new", "from_rgba", "to_rgba", "apply_main_view", "apply_auxiliary_v1", "apply_auxiliary_v2", "split_v1", "split_v2",
-    "view", "luma_row", "u_row", "v_row", "view_to_rgba", "is_avc_format", "avc_to_annex_b"};
+    "view", "luma_row", "u_row", "v_row", "view_to_rgba", "is_avc_format", "avc_to_annex_b", "avc444_read", "avc444_luma_rectangle",
+    "avc444_chroma_rectangle", "avc444_luma_pair", "avc444_chroma_pair", "avc444_luma_rects", "avc444_chroma_rects"};
 
-enum slice { Y, U, V, RGBA, RECTS, VIEW_Y, VIEW_U, VIEW_V, OUT, DATA, MAIN_Y, MAIN_U, MAIN_V, AUX_Y, AUX_U, AUX_V, SLICES };
+/* NUMBERS is the output of the two calls that write numbers of 16 bits. */
+enum slice {
+    Y, U, V, RGBA, RECTS, VIEW_Y, VIEW_U, VIEW_V, OUT, DATA, MAIN_Y, MAIN_U, MAIN_V, AUX_Y, AUX_U, AUX_V, PAYLOAD, NUMBERS, SLICES
+};
 static const char *const slice_names[SLICES] = {"y", "u", "v", "rgba", "rects", "view_y", "view_u", "view_v", "out", "data",
-                                                "main_y", "main_u", "main_v", "aux_y", "aux_u", "aux_v"};
+                                                "main_y", "main_u", "main_v", "aux_y", "aux_u", "aux_v", "payload", "out"};
 
 typedef struct {
     uint16_t width, height;                 /* of the picture */
     uint16_t left, top, right, bottom;      /* to_rgba's rectangle */
     uint16_t view_width, view_height;
     size_t luma_stride, chroma_stride, row; /* of the view */
+    size_t i;                               /* which rectangle or pair of a stream */
     void *at[SLICES];
     size_t count[SLICES];
 } Args;
@@ -31,6 +37,11 @@ typedef struct {
     bool present, yes;
     uint16_t width, height;
     size_t count, start, length, luma_stride, chroma_stride;
+    uint32_t kind;
+    haythaw_stream luma, chroma;
+    uint16_t left, top, right, bottom;
+    uint8_t value, quality;
+    bool reserved, progressive;
 } Result;
 
 #define LENT(slice) a->at[slice], a->count[slice]
@@ -72,6 +83,37 @@ static Result of_views(haythaw_views views)
     return r;
 }
 
+static Result of_avc444(haythaw_avc444 read)
+{
+    Result r = of_number(read.number);
+    r.kind = read.kind;
+    r.luma = read.luma;
+    r.chroma = read.chroma;
+    return r;
+}
+
+static Result of_rectangle(haythaw_rectangle rectangle)
+{
+    Result r = of_number(rectangle.number);
+    r.present = rectangle.present;
+    r.left = rectangle.left;
+    r.top = rectangle.top;
+    r.right = rectangle.right;
+    r.bottom = rectangle.bottom;
+    return r;
+}
+
+static Result of_pair(haythaw_pair pair)
+{
+    Result r = of_number(pair.number);
+    r.present = pair.present;
+    r.value = pair.value;
+    r.reserved = pair.reserved;
+    r.progressive = pair.progressive;
+    r.quality = pair.quality;
+    return r;
+}
+
 static Result of_bool(bool yes)
 {
     Result r = of_number(0);
@@ -97,6 +139,13 @@ static Result run(enum call call, const Args *a)
     case VIEW_TO_RGBA: return of_answer(haythaw_view_to_rgba(A_VIEW, LENT(OUT)));
     case IS_AVC: return of_bool(haythaw_is_avc_format(LENT(DATA)));
     case ANNEX_B: return of_answer(haythaw_avc_to_annex_b(LENT(DATA), LENT(OUT)));
+    case READ: return of_avc444(haythaw_avc444_read(LENT(PAYLOAD)));
+    case LUMA_RECTANGLE: return of_rectangle(haythaw_avc444_luma_rectangle(LENT(PAYLOAD), a->i));
+    case CHROMA_RECTANGLE: return of_rectangle(haythaw_avc444_chroma_rectangle(LENT(PAYLOAD), a->i));
+    case LUMA_PAIR: return of_pair(haythaw_avc444_luma_pair(LENT(PAYLOAD), a->i));
+    case CHROMA_PAIR: return of_pair(haythaw_avc444_chroma_pair(LENT(PAYLOAD), a->i));
+    case LUMA_RECTS: return of_answer(haythaw_avc444_luma_rects(LENT(PAYLOAD), LENT(NUMBERS)));
+    case CHROMA_RECTS: return of_answer(haythaw_avc444_chroma_rects(LENT(PAYLOAD), LENT(NUMBERS)));
     case CALLS: break;
     }
     return of_number(UINT32_MAX);

@@ -18,6 +18,10 @@ typedef struct {
 #define THE_VIEW {VIEW_Y, 21, 4, 4}, {VIEW_U, 8, 4, 4}, {VIEW_V, 8, 4, 4}
 #define THE_VIEWS {MAIN_Y, 512, 6, 6}, {MAIN_U, 128, 6, 6}, {MAIN_V, 128, 6, 6}, {AUX_Y, 512, 6, 6}, {AUX_U, 128, 6, 6}, {AUX_V, 128, 6, 6}
 
+/* The payload is kind 0, with one rectangle of luma and two of chroma, and ends in the second pair of chroma. A byte more is one of H.264. */
+#define THE_PAYLOAD {PAYLOAD, 45, 10, 9}
+static const uint8_t the_payload[46] = {17, 0, 0, 0, 1, 0, 0, 0, 1, 0, 2, 0, 3, 0, 4, 0, 5, 6, 7, 8, 9, 2, 0, 0, 0};
+
 static const struct { size_t used; Need needs[9]; } needs[CALLS] = {
     [NEW] = {3, {PLANES}},
     [FROM_RGBA] = {4, {{RGBA, 204, 2, 2}, PLANES}},
@@ -32,7 +36,20 @@ static const struct { size_t used; Need needs[9]; } needs[CALLS] = {
     [U_ROW] = {3, {THE_VIEW}},
     [V_ROW] = {3, {THE_VIEW}},
     [VIEW_TO_RGBA] = {4, {THE_VIEW, {OUT, 60, 6, 6}}},
-    [ANNEX_B] = {1, {{OUT, 6, 6, 6}}}};
+    [ANNEX_B] = {1, {{OUT, 6, 6, 6}}},
+    [READ] = {1, {THE_PAYLOAD}},
+    [LUMA_RECTANGLE] = {1, {THE_PAYLOAD}},
+    [CHROMA_RECTANGLE] = {1, {THE_PAYLOAD}},
+    [LUMA_PAIR] = {1, {THE_PAYLOAD}},
+    [CHROMA_PAIR] = {1, {THE_PAYLOAD}},
+    [LUMA_RECTS] = {2, {THE_PAYLOAD, {NUMBERS, 4, 6, 6}}},
+    [CHROMA_RECTS] = {2, {THE_PAYLOAD, {NUMBERS, 8, 6, 6}}}};
+
+/* Bytes of an element. */
+static size_t element(enum slice slice)
+{
+    return slice == RECTS || slice == NUMBERS ? 2 : 1;
+}
 
 enum length { EXACT, SHORTER, LONGER, EMPTY, NO_POINTER, LENGTHS };
 
@@ -63,9 +80,11 @@ static Args the_case(enum call call, const enum length *lengths)
         const Need *need = &needs[call].needs[k];
         const size_t count = elements(need, lengths[k]);
         a.count[need->slice] = count;
-        a.at[need->slice] = lengths[k] == NO_POINTER ? NULL : lend(need->slice == RECTS ? 2 * count : count);
+        a.at[need->slice] = lengths[k] == NO_POINTER ? NULL : lend(count * element(need->slice));
         if (need->slice == RECTS && count > 0)
             memcpy(a.at[RECTS], rects, 2 * count);
+        if (need->slice == PAYLOAD && count > 0)
+            memcpy(a.at[PAYLOAD], the_payload, count);
     }
     if (call == ANNEX_B)
         lend_as(&a, DATA, 6, units);
@@ -84,11 +103,14 @@ static void with_lengths(enum call call, const enum length *lengths)
         check(is_refusal(&r, number), call_names[call], "a refusal's fields");
         check(lent_kept(), call_names[call], "a refusal changed a byte");
     } else {
-        static const size_t counts[CALLS] = {[TO_RGBA] = 128, [VIEW_TO_RGBA] = 60, [ANNEX_B] = 6};
+        static const size_t counts[CALLS] = {[TO_RGBA] = 128, [VIEW_TO_RGBA] = 60, [ANNEX_B] = 6, [LUMA_RECTS] = 4, [CHROMA_RECTS] = 8};
         check(r.number == 0 && r.count == counts[call], call_names[call], "number and count");
-        for (size_t k = 0; k < needs[call].used; k++)
-            check(kept_from(a.at[needs[call].needs[k].slice], needs[call].needs[k].slice == RECTS ? 0 : needs[call].needs[k].exact),
-                  call_names[call], "a byte past what is written");
+        for (size_t k = 0; k < needs[call].used; k++) {
+            const Need *need = &needs[call].needs[k];
+            const bool only_read = need->slice == RECTS || need->slice == PAYLOAD;
+            check(kept_from(a.at[need->slice], only_read ? 0 : need->exact * element(need->slice)), call_names[call],
+                  "a byte past what is written");
+        }
     }
     over(call);
 }
