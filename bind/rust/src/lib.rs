@@ -5,6 +5,7 @@
 #![deny(clippy::undocumented_unsafe_blocks)]
 
 pub mod avc444;
+pub mod avc444_payload;
 pub mod decode;
 pub mod geometry;
 #[allow(unsafe_code)]
@@ -14,6 +15,7 @@ pub mod pdu;
 #[doc(no_inline)]
 pub use crate::{
     avc444::{Avc444Layout, Yuv444Frame},
+    avc444_payload::{Avc444Payload, PayloadKind, QuantQuality, ReadError, Stream},
     decode::{DecodedFrame, DecoderError, DecoderResult, Yuv420Frame},
     geometry::ExclusiveRectangle,
     pdu::{avc_to_annex_b_into, is_avc_format},

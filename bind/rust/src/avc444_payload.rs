@@ -1,0 +1,384 @@
+//! The AVC444 payload: which streams it carries, and their parts as slices of it.
+//!
+//! `RFX_AVC444_BITMAP_STREAM` (MS-RDPEGFX 2.2.4.5; V2 has the same frame) is a number with a size and a kind, then one or two AVC420
+//! streams. A stream is a count, that many rectangles, that many pairs of quantiser and quality, and its H.264 bytes. All numbers are
+//! little-endian. The library finds every part and reads every number; nothing is copied or allocated.
+//!
+//! This is not the original's `Avc444BitmapStream`: it borrows where that one collects, and has names of its own.
+
+use core::fmt;
+use core::iter::FusedIterator;
+use core::ops::Range;
+
+use crate::geometry::ExclusiveRectangle;
+use crate::library::{self, Pair, Places, Rectangle};
+
+/// An AVC444 payload that was read: its kind, and the streams that it carries.
+///
+/// ```
+/// use haythaw::avc444_payload::{Avc444Payload, PayloadKind};
+///
+/// // Kind 0. The luma stream has 4 + 10 + 3 = 17 bytes and one rectangle; the chroma stream is what follows, and has none.
+/// let bytes = [
+///     17, 0, 0, 0, // size and kind
+///     1, 0, 0, 0, 0, 0, 0, 0, 64, 0, 32, 0, 22, 100, 0x67, 0x42, 0x1F, // luma
+///     0, 0, 0, 0, 0x68, 0xCE, // chroma
+/// ];
+/// let payload = Avc444Payload::read(&bytes)?;
+/// assert_eq!(payload.kind(), PayloadKind::Both);
+///
+/// let luma = payload.luma().expect("kind 0 has it");
+/// let rect = luma.rectangles().next().expect("one rectangle");
+/// assert_eq!((rect.left, rect.top, rect.right, rect.bottom), (0, 0, 64, 32));
+/// assert_eq!(luma.h264(), [0x67, 0x42, 0x1F]);
+///
+/// let chroma = payload.chroma().expect("kind 0 has it");
+/// assert_eq!((chroma.count(), chroma.h264()), (0, &[0x68, 0xCE][..]));
+/// # Ok::<(), haythaw::avc444_payload::ReadError>(())
+/// ```
+#[derive(Clone, Copy)]
+pub struct Avc444Payload<'a> {
+    kind: PayloadKind,
+    luma: Option<Stream<'a>>,
+    chroma: Option<Stream<'a>>,
+}
+
+impl<'a> Avc444Payload<'a> {
+    /// Reads a payload. It looks at the counts and not at what is counted, so that a count costs no time, however large it is.
+    ///
+    /// In kind 0 the size says where the luma stream ends and the chroma stream starts. In the other kinds the one stream runs to the
+    /// payload's end, and the size has to lie within the payload and says nothing else.
+    ///
+    /// # Errors
+    ///
+    /// The first of these that holds: [`ReadError::PayloadShort`] when the payload is below 4 bytes, [`ReadError::KindUnknown`],
+    /// [`ReadError::PayloadShort`] when the size runs past the payload, [`ReadError::StreamShort`].
+    ///
+    /// ```
+    /// use haythaw::avc444_payload::{Avc444Payload, ReadError};
+    ///
+    /// assert!(Avc444Payload::read(&[4, 0, 0, 0x40, 0, 0, 0, 0]).is_ok()); // luma alone, no rectangle, no H.264 byte
+    /// assert_eq!(Avc444Payload::read(&[4, 0, 0]).unwrap_err(), ReadError::PayloadShort);
+    /// assert_eq!(Avc444Payload::read(&[4, 0, 0, 0xC0, 0, 0, 0, 0]).unwrap_err(), ReadError::KindUnknown);
+    /// assert_eq!(Avc444Payload::read(&[5, 0, 0, 0x40, 0, 0, 0, 0]).unwrap_err(), ReadError::PayloadShort);
+    /// assert_eq!(Avc444Payload::read(&[4, 0, 0, 0x40, 1, 0, 0, 0]).unwrap_err(), ReadError::StreamShort);
+    /// ```
+    pub fn read(payload: &'a [u8]) -> Result<Self, ReadError> {
+        let read = library::avc444_read(payload);
+        ReadError::of("avc444_read", read.number)?;
+        let luma = Some(Stream { payload, which: Which::Luma, places: read.luma });
+        let chroma = Some(Stream { payload, which: Which::Chroma, places: read.chroma });
+        Ok(match read.kind {
+            0 => Self { kind: PayloadKind::Both, luma, chroma },
+            1 => Self { kind: PayloadKind::Luma, luma, chroma: None },
+            2 => Self { kind: PayloadKind::Chroma, luma: None, chroma },
+            kind => panic!("haythaw: avc444_read answered kind {kind}"),
+        })
+    }
+
+    /// What the payload carries.
+    pub fn kind(&self) -> PayloadKind {
+        self.kind
+    }
+
+    /// The luma stream, which holds the main view, or `None` if the payload does not carry it.
+    pub fn luma(&self) -> Option<Stream<'a>> {
+        self.luma
+    }
+
+    /// The chroma stream, which holds the auxiliary view, or `None` if the payload does not carry it.
+    pub fn chroma(&self) -> Option<Stream<'a>> {
+        self.chroma
+    }
+}
+
+impl fmt::Debug for Avc444Payload<'_> {
+    fn fmt(&self, f: &mut fmt::Formatter<'_>) -> fmt::Result {
+        f.debug_struct("Avc444Payload").field("luma", &self.luma).field("chroma", &self.chroma).finish()
+    }
+}
+
+/// Which streams a payload carries.
+#[derive(Debug, Clone, Copy, PartialEq, Eq)]
+pub enum PayloadKind {
+    /// Kind 0: luma, then chroma.
+    Both,
+    /// Kind 1: luma alone.
+    Luma,
+    /// Kind 2: chroma alone.
+    Chroma,
+}
+
+/// Which of the two streams, and so which calls of the library read it.
+#[derive(Clone, Copy)]
+enum Which {
+    Luma,
+    Chroma,
+}
+
+/// A stream of a payload. Its parts are slices of that payload, and live as long as it does.
+///
+/// ```
+/// use haythaw::avc444_payload::Avc444Payload;
+///
+/// fn h264_of_luma(bytes: &[u8]) -> Option<&[u8]> {
+///     Some(Avc444Payload::read(bytes).ok()?.luma()?.h264())
+/// }
+/// let bytes = [0, 0, 0, 0x40, 0, 0, 0, 0, 0x67, 0x42];
+/// assert!(std::ptr::eq(h264_of_luma(&bytes).expect("luma alone"), &bytes[8..]));
+/// ```
+#[derive(Clone, Copy)]
+pub struct Stream<'a> {
+    // INVARIANT: the library read `payload`, found it to carry this stream, and answered these places.
+    payload: &'a [u8],
+    which: Which,
+    places: Places,
+}
+
+impl<'a> Stream<'a> {
+    /// How many rectangles there are, and as many pairs.
+    pub fn count(&self) -> usize {
+        self.places.count
+    }
+
+    /// The rectangles as they stand in the payload, eight bytes each.
+    pub fn rectangle_bytes(&self) -> &'a [u8] {
+        &self.payload[self.places.rects..self.places.pairs]
+    }
+
+    /// The pairs as they stand in the payload, a quantiser byte and a quality byte each.
+    pub fn pair_bytes(&self) -> &'a [u8] {
+        &self.payload[self.places.pairs..self.places.data]
+    }
+
+    /// The H.264 bytes.
+    pub fn h264(&self) -> &'a [u8] {
+        &self.payload[self.places.data..self.places.data + self.places.length]
+    }
+
+    /// The rectangles. Any four numbers are one: they are not compared with each other or with a picture.
+    ///
+    /// ```
+    /// use haythaw::avc444_payload::Avc444Payload;
+    ///
+    /// let bytes = [0, 0, 0, 0x80, 2, 0, 0, 0, 1, 0, 2, 0, 3, 0, 4, 0, 0, 1, 6, 0, 7, 0, 8, 0, 22, 100, 22, 100];
+    /// let chroma = Avc444Payload::read(&bytes)?.chroma().expect("kind 2 has it");
+    /// assert_eq!(chroma.rectangles().len(), 2);
+    /// assert_eq!(chroma.rectangles().map(|rect| rect.left).collect::<Vec<_>>(), [1, 256]);
+    /// assert_eq!(chroma.rectangles().rev().map(|rect| rect.top).collect::<Vec<_>>(), [6, 2]);
+    /// # Ok::<(), haythaw::avc444_payload::ReadError>(())
+    /// ```
+    pub fn rectangles(&self) -> Each<'a, ExclusiveRectangle> {
+        self.each(match self.which {
+            Which::Luma => |payload, i| rectangle(library::avc444_luma_rectangle(payload, i)),
+            Which::Chroma => |payload, i| rectangle(library::avc444_chroma_rectangle(payload, i)),
+        })
+    }
+
+    /// The pairs of quantiser and quality, one for each rectangle.
+    ///
+    /// ```
+    /// use haythaw::avc444_payload::{Avc444Payload, QuantQuality};
+    ///
+    /// let bytes = [0, 0, 0, 0x40, 1, 0, 0, 0, 0, 0, 0, 0, 16, 0, 16, 0, 0x96, 100];
+    /// let luma = Avc444Payload::read(&bytes)?.luma().expect("kind 1 has it");
+    /// let pair = QuantQuality { value: 22, reserved: false, progressive: true, quality: 100 };
+    /// assert!(luma.pairs().eq([pair]));
+    /// # Ok::<(), haythaw::avc444_payload::ReadError>(())
+    /// ```
+    pub fn pairs(&self) -> Each<'a, QuantQuality> {
+        self.each(match self.which {
+            Which::Luma => |payload, i| pair(library::avc444_luma_pair(payload, i)),
+            Which::Chroma => |payload, i| pair(library::avc444_chroma_pair(payload, i)),
+        })
+    }
+
+    /// Copies the rectangles into `out`, four numbers each (left, top, right, bottom), and gives how many numbers that are. What `out`
+    /// has after them stays.
+    ///
+    /// # Errors
+    ///
+    /// [`ReadError::OutputShort`] when `out` is shorter than four numbers for each rectangle. Then nothing is written.
+    ///
+    /// ```
+    /// use haythaw::avc444_payload::{Avc444Payload, ReadError};
+    ///
+    /// let bytes = [0, 0, 0, 0x40, 1, 0, 0, 0, 0, 0, 0, 0, 16, 0, 0, 1, 22, 100];
+    /// let luma = Avc444Payload::read(&bytes)?.luma().expect("kind 1 has it");
+    /// let mut numbers = [9; 5];
+    /// assert_eq!(luma.copy_rectangles(&mut numbers)?, 4);
+    /// assert_eq!(numbers, [0, 0, 16, 256, 9]);
+    /// assert_eq!(luma.copy_rectangles(&mut numbers[..3]), Err(ReadError::OutputShort));
+    /// # Ok::<(), ReadError>(())
+    /// ```
+    pub fn copy_rectangles(&self, out: &mut [u16]) -> Result<usize, ReadError> {
+        let answer = match self.which {
+            Which::Luma => library::avc444_luma_rects(self.payload, out),
+            Which::Chroma => library::avc444_chroma_rects(self.payload, out),
+        };
+        ReadError::of("avc444_rects", answer.number)?;
+        Ok(answer.count)
+    }
+
+    fn each<T>(&self, at: fn(&[u8], usize) -> T) -> Each<'a, T> {
+        Each { payload: self.payload, at, left: 0..self.places.count }
+    }
+}
+
+impl fmt::Debug for Stream<'_> {
+    fn fmt(&self, f: &mut fmt::Formatter<'_>) -> fmt::Result {
+        f.debug_struct("Stream")
+            .field("count", &self.count())
+            .field("h264_len", &self.h264().len())
+            .finish_non_exhaustive()
+    }
+}
+
+/// The rectangle that the library read.
+fn rectangle(found: Rectangle) -> ExclusiveRectangle {
+    counted("avc444_rectangle", found.number, found.present);
+    ExclusiveRectangle { left: found.left, top: found.top, right: found.right, bottom: found.bottom }
+}
+
+/// The pair that the library read.
+fn pair(found: Pair) -> QuantQuality {
+    counted("avc444_pair", found.number, found.present);
+    QuantQuality {
+        value: found.value,
+        reserved: found.reserved,
+        progressive: found.progressive,
+        quality: found.quality,
+    }
+}
+
+/// Goes on after a call for what the library itself has counted.
+#[track_caller]
+fn counted(call: &str, number: u32, present: bool) {
+    library::done(call, number);
+    assert!(present, "haythaw: {call} did not find what avc444_read counted");
+}
+
+/// How one rectangle's part of the picture was coded.
+#[derive(Debug, Clone, Copy, PartialEq, Eq)]
+pub struct QuantQuality {
+    /// The quantiser: the low six bits of its byte, 0 to 63.
+    pub value: u8,
+    /// Bit 6 of the quantiser byte, which the standard reserves.
+    pub reserved: bool,
+    /// Bit 7 of the quantiser byte: the part is coded progressively.
+    pub progressive: bool,
+    /// The quality byte.
+    pub quality: u8,
+}
+
+/// The rectangles or the pairs of a stream, each read by the library when it is asked for.
+///
+/// From both ends, and any of them at once with `nth`.
+#[derive(Clone)]
+pub struct Each<'a, T> {
+    payload: &'a [u8],
+    at: fn(&[u8], usize) -> T,
+    left: Range<usize>,
+}
+
+impl<T> Iterator for Each<'_, T> {
+    type Item = T;
+
+    fn next(&mut self) -> Option<T> {
+        self.left.next().map(|i| (self.at)(self.payload, i))
+    }
+
+    fn nth(&mut self, n: usize) -> Option<T> {
+        self.left.nth(n).map(|i| (self.at)(self.payload, i))
+    }
+
+    fn size_hint(&self) -> (usize, Option<usize>) {
+        self.left.size_hint()
+    }
+
+    fn count(self) -> usize {
+        self.left.len()
+    }
+
+    fn last(mut self) -> Option<T> {
+        self.next_back()
+    }
+}
+
+impl<T> DoubleEndedIterator for Each<'_, T> {
+    fn next_back(&mut self) -> Option<T> {
+        self.left.next_back().map(|i| (self.at)(self.payload, i))
+    }
+
+    fn nth_back(&mut self, n: usize) -> Option<T> {
+        self.left.nth_back(n).map(|i| (self.at)(self.payload, i))
+    }
+}
+
+impl<T> ExactSizeIterator for Each<'_, T> {}
+
+impl<T> FusedIterator for Each<'_, T> {}
+
+impl<T: Clone + fmt::Debug> fmt::Debug for Each<'_, T> {
+    fn fmt(&self, f: &mut fmt::Formatter<'_>) -> fmt::Result {
+        f.debug_list().entries(self.clone()).finish()
+    }
+}
+
+/// Why a payload was not read, or its rectangles not copied.
+///
+/// ```
+/// use haythaw::avc444_payload::{Avc444Payload, ReadError};
+///
+/// let error = Avc444Payload::read(&[0, 0, 0, 0xC0]).unwrap_err();
+/// assert_eq!((error, error.number()), (ReadError::KindUnknown, 8));
+/// assert_eq!(error.to_string(), "AVC444 payload of the unknown kind 3");
+/// ```
+#[derive(Debug, Clone, Copy, PartialEq, Eq)]
+#[non_exhaustive]
+pub enum ReadError {
+    /// The output is shorter than four numbers for each rectangle.
+    OutputShort,
+    /// The kind is 3.
+    KindUnknown,
+    /// The payload is below 4 bytes, or its size runs past it.
+    PayloadShort,
+    /// The count, a rectangle or a pair of a stream runs past that stream.
+    StreamShort,
+}
+
+impl ReadError {
+    /// The library's number for it: 6, 8, 9 or 10.
+    pub fn number(self) -> u32 {
+        match self {
+            Self::OutputShort => 6,
+            Self::KindUnknown => 8,
+            Self::PayloadShort => 9,
+            Self::StreamShort => 10,
+        }
+    }
+
+    /// Goes on after a call that answered 0.
+    #[track_caller]
+    fn of(call: &str, number: u32) -> Result<(), Self> {
+        let all = [Self::OutputShort, Self::KindUnknown, Self::PayloadShort, Self::StreamShort];
+        if let Some(error) = all.into_iter().find(|error| error.number() == number) {
+            return Err(error);
+        }
+        library::done(call, number);
+        Ok(())
+    }
+}
+
+impl fmt::Display for ReadError {
+    fn fmt(&self, f: &mut fmt::Formatter<'_>) -> fmt::Result {
+        f.write_str(match self {
+            Self::OutputShort => "output shorter than four numbers for each rectangle",
+            Self::KindUnknown => "AVC444 payload of the unknown kind 3",
+            Self::PayloadShort => "AVC444 payload shorter than its first number, or than the size in it says",
+            Self::StreamShort => "AVC444 stream shorter than its count, rectangles and pairs",
+        })
+    }
+}
+
+impl core::error::Error for ReadError {}
