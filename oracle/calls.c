@@ -11,6 +11,10 @@ typedef struct { uint8_t bytes[4]; } Pixel;
 typedef struct { uint32_t number; size_t count; } Answer;
 typedef struct { uint32_t number; bool present; size_t start, length; } Row;
 typedef struct { uint32_t number; uint16_t width, height; size_t luma_stride, chroma_stride; } Views;
+typedef struct { size_t count, rects, pairs, data, length; } Stream;
+typedef struct { uint32_t number, kind; Stream luma, chroma; } Avc444;
+typedef struct { uint32_t number; bool present; uint16_t left, top, right, bottom; } Rectangle;
+typedef struct { uint32_t number; bool present; uint8_t value; bool reserved, progressive; uint8_t quality; } Pair;
 
 Yuv haythaw_forward(uint8_t r, uint8_t g, uint8_t b);
 Pixel haythaw_reverse(uint8_t y, uint8_t u, uint8_t v);
@@ -23,6 +27,10 @@ Row haythaw_luma_row(uint16_t view_width, uint16_t view_height, size_t luma_stri
                      const uint8_t *view_v, size_t view_v_count, size_t row);
 bool haythaw_is_avc_format(const uint8_t *data, size_t data_count);
 Answer haythaw_avc_to_annex_b(const uint8_t *data, size_t data_count, uint8_t *out, size_t out_count);
+Avc444 haythaw_avc444_read(const uint8_t *payload, size_t payload_count);
+Rectangle haythaw_avc444_luma_rectangle(const uint8_t *payload, size_t payload_count, size_t i);
+Pair haythaw_avc444_luma_pair(const uint8_t *payload, size_t payload_count, size_t i);
+Answer haythaw_avc444_luma_rects(const uint8_t *payload, size_t payload_count, uint16_t *out, size_t out_count);
 size_t haythaw_allocation_size(uint16_t width, uint16_t height);
 uint32_t haythaw_new(uint16_t width, uint16_t height, uint8_t *y, size_t y_count, uint8_t *u, size_t u_count,
                      uint8_t *v, size_t v_count);
@@ -95,6 +103,30 @@ static void try_payload(void)
     expect("Annex B, a refusal", short_by_one.number == 6 && short_by_one.count == 0);
     Answer whole = haythaw_avc_to_annex_b(units, 6, out, 6);
     expect("Annex B, an answer", whole.number == 0 && whole.count == 6 && memcmp(out, annex_b, 6) == 0);
+}
+
+/* A payload of kind 1: a rectangle at 8, its pair at 16, and one H.264 byte at 18. */
+static void try_avc444(void)
+{
+    const uint8_t luma[19] = {0, 0, 0, 0x40, 1, 0, 0, 0, 1, 0, 2, 0, 3, 0, 4, 1, 0xD6, 100, 9};
+    Avc444 read = haythaw_avc444_read(luma, 19);
+    expect("AVC444, an answer", read.number == 0 && read.kind == 1);
+    expect("AVC444, a stream", read.luma.count == 1 && read.luma.rects == 8 && read.luma.pairs == 16 && read.luma.data == 18);
+    expect("AVC444, its bytes", read.luma.length == 1 && read.chroma.count == 0 && read.chroma.rects == 0 && read.chroma.length == 0);
+    read = haythaw_avc444_read(luma, 17);
+    expect("AVC444, a refusal", read.number == 10 && read.kind == 0 && read.luma.count == 0);
+
+    Rectangle first = haythaw_avc444_luma_rectangle(luma, 19, 0), second = haythaw_avc444_luma_rectangle(luma, 19, 1);
+    expect("AVC444, a rectangle", first.number == 0 && first.present && first.left == 1 && first.top == 2 && first.right == 3 && first.bottom == 260);
+    expect("AVC444, an absent rectangle", second.number == 0 && !second.present && second.bottom == 0);
+    Pair pair = haythaw_avc444_luma_pair(luma, 19, 0);
+    expect("AVC444, a pair", pair.number == 0 && pair.present && pair.value == 22 && pair.reserved && pair.progressive && pair.quality == 100);
+
+    uint16_t out[5] = {7, 7, 7, 7, 7};
+    Answer copied = haythaw_avc444_luma_rects(luma, 19, out, 3);
+    expect("AVC444, a copy refused", copied.number == 6 && copied.count == 0 && out[0] == 7);
+    copied = haythaw_avc444_luma_rects(luma, 19, out, 5);
+    expect("AVC444, a copy", copied.number == 0 && copied.count == 4 && out[0] == 1 && out[3] == 260 && out[4] == 7);
 }
 
 /* A picture of 2 by 1 with planes of 256 bytes. */
@@ -202,6 +234,7 @@ int main(void)
     try_bytes();
     try_view();
     try_payload();
+    try_avc444();
     try_picture();
     try_view_and_picture();
     try_auxiliary();
