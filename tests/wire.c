@@ -1,0 +1,310 @@
+/* The reader of the AVC444 payload in the library beside another one, written from request E1's words alone (wire_reader.h).
+
+   A case is a payload (wire_cases.h) in memory that ends where a page begins that nothing may touch, or begins where one ends. The
+   library reads it, answers rectangles and pairs of both streams at places inside and outside them, and copies the rectangles of both
+   into outputs that are exact, one number short, longer, empty and null, each before such a page too. Every field of every answer, and
+   every byte of every output and around it, is compared with what the other reader says; the payload has to be as it was.
+
+       wire [--seed N] [--cases N] [--seconds N] [--only CASE]
+       wire --self-test      each wrong reader, each altered field or byte and a touch of each page beside a buffer has to be noticed
+
+   The last line has the payloads of each family, the answers compared, the differences and the seed. The status is 1 if there is a
+   difference, and the smallest payload that shows one is printed. */
+#define _DEFAULT_SOURCE
+#include <signal.h>
+#include <stdbool.h>
+#include <stdint.h>
+#include <stdio.h>
+#include <stdlib.h>
+#include <string.h>
+#include <sys/mman.h>
+#include <sys/wait.h>
+#include <time.h>
+#include <unistd.h>
+
+#include "haythaw.h"
+#include "wire_reader.h"
+#include "wire_cases.h"
+
+enum { AROUND = 8, PLACES = 11, ROOM = 2 * LONGEST };
+
+/* What the self-test alters: a field of every answer of a call, or bytes. */
+enum call { READ, RECTANGLE, PAIR, COPY, PAYLOAD, WRITTEN, AFTER, BEFORE, ALTERABLE };
+enum { MOST_FIELDS = 12 };
+static const struct { const char *name; int count; size_t fields[MOST_FIELDS]; } alterable[ALTERABLE] = {
+    {"an answer of read", 12,
+     {offsetof(haythaw_avc444, number), offsetof(haythaw_avc444, kind), offsetof(haythaw_avc444, luma.count),
+      offsetof(haythaw_avc444, luma.rects), offsetof(haythaw_avc444, luma.pairs), offsetof(haythaw_avc444, luma.data),
+      offsetof(haythaw_avc444, luma.length), offsetof(haythaw_avc444, chroma.count), offsetof(haythaw_avc444, chroma.rects),
+      offsetof(haythaw_avc444, chroma.pairs), offsetof(haythaw_avc444, chroma.data), offsetof(haythaw_avc444, chroma.length)}},
+    {"a rectangle", 6,
+     {offsetof(haythaw_rectangle, number), offsetof(haythaw_rectangle, present), offsetof(haythaw_rectangle, left),
+      offsetof(haythaw_rectangle, top), offsetof(haythaw_rectangle, right), offsetof(haythaw_rectangle, bottom)}},
+    {"a pair", 6,
+     {offsetof(haythaw_pair, number), offsetof(haythaw_pair, present), offsetof(haythaw_pair, value), offsetof(haythaw_pair, reserved),
+      offsetof(haythaw_pair, progressive), offsetof(haythaw_pair, quality)}},
+    {"a copy's answer", 2, {offsetof(haythaw_answer, number), offsetof(haythaw_answer, count)}},
+    {"a byte of the payload", 1, {0}},
+    {"a number written", 1, {0}},
+    {"a number after those written", 1, {0}},
+    {"a number before the output", 1, {0}}};
+
+static Payload payload, smallest;
+static Reading expected;
+static uint8_t *lent, *output; /* ROOM bytes each, between pages that nothing may touch */
+static const uint8_t *at;      /* where the payload lies */
+static uint64_t seed = 1, number, smallest_number;
+static uint64_t compared, differences, differing, made[FAMILIES], answered[11];
+static enum reader how;
+static enum call altered = ALTERABLE; /* none */
+static int altered_field;
+static bool quiet;
+
+static uint8_t *room(void)
+{
+    size_t page = (size_t)sysconf(_SC_PAGESIZE);
+    uint8_t *map = mmap(NULL, ROOM + 2 * page, PROT_NONE, MAP_PRIVATE | MAP_ANONYMOUS, -1, 0);
+    if (map == MAP_FAILED || mprotect(map + page, ROOM, PROT_READ | PROT_WRITE)) {
+        perror("wire: no memory for a buffer");
+        exit(2);
+    }
+    return map + page;
+}
+
+static void same(bool holds, const char *what, const char *which, uint64_t i)
+{
+    if (holds) return;
+    if (differences++ < 5 && !quiet)
+        printf("wire: --seed %llu --only %llu: %zu bytes: %s%s differs (%llu)\n", (unsigned long long)seed, (unsigned long long)number,
+               payload.length, which, what, (unsigned long long)i);
+}
+
+static void alter(enum call call, void *answer)
+{
+    if (call == altered) ((uint8_t *)answer)[alterable[call].fields[altered_field]] ^= 1;
+}
+
+/* The byte that a truth value is, which has to be 0 or 1. */
+static uint8_t byte_of(const bool *truth)
+{
+    uint8_t byte;
+    memcpy(&byte, truth, 1);
+    return byte;
+}
+
+static void same_stream(haythaw_stream s, const Part *p, const char *which)
+{
+    same(s.count == p->count && s.rects == p->rects && s.pairs == p->pairs && s.data == p->data && s.length == p->length,
+         "stream", which, s.count);
+}
+
+typedef haythaw_rectangle Rectangle(const uint8_t *, size_t, size_t);
+typedef haythaw_pair Pair(const uint8_t *, size_t, size_t);
+typedef haythaw_answer Rects(const uint8_t *, size_t, uint16_t *, size_t);
+
+static void same_rectangle(Rectangle *call, const Part *p, const char *which, size_t i)
+{
+    static const uint16_t none[4];
+    const uint16_t *r = i < p->count ? p->rectangle[i] : none;
+    haythaw_rectangle got = call(at, payload.length, i);
+    compared++;
+    alter(RECTANGLE, &got);
+    same(got.number == expected.number && byte_of(&got.present) == (i < p->count) && got.left == r[0] && got.top == r[1]
+             && got.right == r[2] && got.bottom == r[3],
+         "rectangle", which, i);
+}
+
+static void same_pair(Pair *call, const Part *p, const char *which, size_t i)
+{
+    bool in = i < p->count;
+    haythaw_pair got = call(at, payload.length, i);
+    compared++;
+    alter(PAIR, &got);
+    same(got.number == expected.number && byte_of(&got.present) == in && got.value == (in ? p->pair[i].value : 0)
+             && byte_of(&got.reserved) == (in ? p->pair[i].reserved : 0)
+             && byte_of(&got.progressive) == (in ? p->pair[i].progressive : 0) && got.quality == (in ? p->pair[i].quality : 0),
+         "pair", which, i);
+}
+
+/* The rectangles copied into an output of so many numbers, which differ from place to place before the call. */
+static void same_copy(Rects *call, const Part *p, const char *which, size_t numbers, bool null)
+{
+    uint16_t *out = (uint16_t *)(void *)(output + ROOM) - numbers, salt = (uint16_t)any();
+    size_t needed = 4 * p->count, written = expected.number || needed > numbers ? 0 : needed;
+    uint32_t refusal = expected.number ? expected.number : needed > numbers ? 6 : 0;
+    for (size_t k = 0; k < AROUND + numbers; k++) (out - AROUND)[k] = (uint16_t)(salt + k * 40503);
+    haythaw_answer got = call(at, payload.length, null ? NULL : out, numbers);
+    compared++;
+    alter(COPY, &got);
+    if (written) alter(WRITTEN, &out[written - 1]);
+    if (written < numbers) alter(AFTER, &out[numbers - 1]);
+    alter(BEFORE, &out[-1]);
+    bool kept = true;
+    for (size_t k = 0; k < AROUND + numbers; k++)
+        kept &= (k >= AROUND && k < AROUND + written) || (out - AROUND)[k] == (uint16_t)(salt + k * 40503);
+    same(got.number == refusal && got.count == written, "copy's answer", which, numbers);
+    same(!written || !memcmp(out, p->rectangle, 2 * written), "copy", which, numbers);
+    same(kept, "copy's surroundings", which, numbers);
+}
+
+static void compare_stream(const Part *p, const char *which, Rectangle *rectangle, Pair *pair, Rects *rects)
+{
+    /* The last ones are inside if a number wraps or is cut to 32 bits on the way. */
+    const size_t places[PLACES] = {
+        0, p->count - 1, p->count, p->count + 1, p->count ? any() % p->count : any(), any(), SIZE_MAX, ((size_t)1 << 32) + below(2),
+        ((size_t)1 << 61) + below(2), ((size_t)1 << 62) + below(2), ((size_t)1 << 63) + below(2)};
+    for (int k = 0; k < PLACES; k++) {
+        same_rectangle(rectangle, p, which, places[k]);
+        same_pair(pair, p, which, places[k]);
+    }
+    const size_t exact = 4 * p->count;
+    same_copy(rects, p, which, exact, false);
+    same_copy(rects, p, which, exact + 1 + below(16), false);
+    same_copy(rects, p, which, 0, false);
+    same_copy(rects, p, which, 0, true);
+    if (exact) same_copy(rects, p, which, exact - 1, false);
+}
+
+/* Puts the payload where this case has it: before a page that nothing may touch, one in eight after one; no bytes, half of them null. */
+static void lend(void)
+{
+    uint8_t *to = number % 8 == 7 ? lent : lent + ROOM - payload.length;
+    memcpy(to, payload.bytes, payload.length);
+    at = payload.length == 0 && below(2) ? NULL : to;
+}
+
+static void run(uint64_t which)
+{
+    uint64_t before = differences;
+    number = which;
+    make(&payload, seed, number);
+    lend();
+    read_payload(payload.bytes, payload.length, how, &expected);
+    made[payload.family]++;
+    answered[expected.number]++;
+
+    haythaw_avc444 got = haythaw_avc444_read(at, payload.length);
+    compared++;
+    alter(READ, &got);
+    same(got.number == expected.number, "number", "", got.number);
+    same(got.kind == expected.kind, "kind", "", got.kind);
+    same_stream(got.luma, &expected.part[0], "luma's ");
+    same_stream(got.chroma, &expected.part[1], "chroma's ");
+    compare_stream(&expected.part[0], "luma's ", haythaw_avc444_luma_rectangle, haythaw_avc444_luma_pair, haythaw_avc444_luma_rects);
+    compare_stream(&expected.part[1], "chroma's ", haythaw_avc444_chroma_rectangle, haythaw_avc444_chroma_pair,
+                   haythaw_avc444_chroma_rects);
+    if (payload.length) alter(PAYLOAD, &payload.bytes[payload.length - 1]);
+    same(!at || !memcmp(at, payload.bytes, payload.length), "payload itself", "the ", 0);
+
+    if (differences == before || (differing++ && payload.length >= smallest.length)) return;
+    smallest = payload;
+    smallest_number = number;
+}
+
+/* Whether one payload of a round, or more, shows a difference; one in 61 is tried. */
+static bool noticed(void)
+{
+    differences = 0;
+    for (uint64_t k = 0; k < ROUND && !differences; k += 61) run(k);
+    return differences > 0;
+}
+
+/* Whether a touch of a byte ends a process. */
+static bool traps(volatile uint8_t *byte)
+{
+    int status = 0;
+    pid_t child = fork();
+    if (child == 0) {
+        signal(SIGSEGV, SIG_DFL);
+        signal(SIGBUS, SIG_DFL);
+        _exit(*byte == *byte ? 0 : 1);
+    }
+    return child > 0 && waitpid(child, &status, 0) == child && WIFSIGNALED(status);
+}
+
+static int self_test(void)
+{
+    int missed = 0, fields = 0;
+    quiet = true;
+    for (int k = AS_ASKED + 1; k < READERS; k++) {
+        how = (enum reader)k;
+        if (!noticed()) missed++, printf("wire: a wrong reader was not noticed: %s\n", reader_names[k]);
+    }
+    how = AS_ASKED;
+    for (altered = READ; altered < ALTERABLE; altered++)
+        for (altered_field = 0; altered_field < alterable[altered].count; altered_field++, fields++)
+            if (!noticed()) missed++, printf("wire: not noticed, though altered: %s (%d)\n", alterable[altered].name, altered_field);
+    if (noticed()) missed++, printf("wire: the reader as asked differs, and nothing was altered\n");
+    if (!traps(lent - 1) || !traps(lent + ROOM) || !traps(output + ROOM) || traps(lent))
+        missed++, printf("wire: a byte beside a buffer may be touched\n");
+    if (!missed)
+        printf("wire: %d wrong readers, %d altered answers or bytes and a touch of each page beside a buffer are noticed\n",
+               READERS - 1, fields);
+    return missed != 0;
+}
+
+static void trapped(int by)
+{
+    char said[160];
+    int n = snprintf(said, sizeof said, "wire: --seed %llu --only %llu: %zu bytes: a byte outside was touched (signal %d)\n",
+                     (unsigned long long)seed, (unsigned long long)number, payload.length, by);
+    _exit(write(1, said, (size_t)n) == n ? 1 : 2);
+}
+
+static uint64_t number_of(int argc, char **argv, int i)
+{
+    char *end = "";
+    uint64_t n = i < argc ? strtoull(argv[i], &end, 10) : 0;
+    if (i >= argc || *end || !*argv[i]) {
+        fprintf(stderr, "wire: %s wants a number\n", argv[i - 1]);
+        exit(2);
+    }
+    return n;
+}
+
+static int summary(uint64_t ran)
+{
+    if (differing) {
+        printf("wire: %llu payloads differ; the smallest, --seed %llu --only %llu, has %zu bytes:", (unsigned long long)differing,
+               (unsigned long long)seed, (unsigned long long)smallest_number, smallest.length);
+        for (size_t k = 0; k < smallest.length; k++) printf(" %02x", smallest.bytes[k]);
+        printf("\n");
+    }
+    printf("wire: %llu read; refused with 8 %llu, with 9 %llu, with 10 %llu\n", (unsigned long long)answered[0],
+           (unsigned long long)answered[8], (unsigned long long)answered[9], (unsigned long long)answered[10]);
+    printf("wire: %llu payloads (", (unsigned long long)ran);
+    for (int k = 0; k < FAMILIES; k++) printf("%s%llu %s", k ? ", " : "", (unsigned long long)made[k], family_names[k]);
+    printf("), %llu answers compared, %llu differences, seed %llu\n", (unsigned long long)compared, (unsigned long long)differences,
+           (unsigned long long)seed);
+    return differences != 0;
+}
+
+int main(int argc, char **argv)
+{
+    lent = room();
+    output = room();
+    signal(SIGSEGV, trapped);
+    signal(SIGBUS, trapped);
+    if (argc == 2 && !strcmp(argv[1], "--self-test")) return self_test();
+    uint64_t cases = 1000000, seconds = 0, only = UINT64_MAX;
+    for (int i = 1; i < argc; i += 2) {
+        uint64_t *into = !strcmp(argv[i], "--seed") ? &seed : !strcmp(argv[i], "--cases") ? &cases
+                         : !strcmp(argv[i], "--seconds") ? &seconds : !strcmp(argv[i], "--only") ? &only : NULL;
+        if (!into) {
+            fprintf(stderr, "usage: wire [--seed N] [--cases N] [--seconds N] [--only CASE], or wire --self-test\n");
+            return 2;
+        }
+        *into = number_of(argc, argv, i + 1);
+    }
+    uint64_t ran = 0, start = only == UINT64_MAX ? 0 : only, end = only == UINT64_MAX ? cases : only + 1;
+    time_t begun = time(NULL), shown = begun;
+    for (uint64_t k = start; seconds ? (uint64_t)(time(NULL) - begun) < seconds : k < end; k++, ran++) {
+        run(k);
+        if (time(NULL) - shown >= 5) {
+            shown = time(NULL);
+            fprintf(stderr, "wire: %llu payloads, %llu differences, %ld s\n", (unsigned long long)ran, (unsigned long long)differences,
+                    (long)(shown - begun));
+        }
+    }
+    return summary(ran);
+}
