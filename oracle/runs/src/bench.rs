@@ -87,25 +87,25 @@ impl Bench {
     }
 }
 
-/// A call of the library on two inputs, or on one and plain copies beside it, to weigh the times against each other.
+/// A call of the library on two inputs, or on one and something plain beside it, to weigh the times against each other.
 pub struct Weighing {
     pub name: &'static str,
     /// The first input against the second, in words.
     pub input: &'static str,
-    /// What the ratio of the times a pixel is to be at most.
-    pub bound: f64,
+    /// What the ratio of the times a pixel, or a payload, is to be at most, if that is laid down.
+    pub bound: Option<f64>,
     pub passes: fn() -> [Pass; 2],
 }
 
-/// A call, or copies, over so many pixels. It answers a sum of what it was answered.
+/// A call, or what is plain beside it, over so many pixels, or over so many payloads. It answers a sum of what it was answered.
 pub struct Pass {
-    pub pixels: u64,
+    pub units: u64,
     pub run: Box<dyn FnMut() -> u64>,
 }
 
 impl Pass {
-    pub fn new(pixels: u64, run: impl FnMut() -> u64 + 'static) -> Self {
-        Self { pixels, run: Box::new(run) }
+    pub fn new(units: u64, run: impl FnMut() -> u64 + 'static) -> Self {
+        Self { units, run: Box::new(run) }
     }
 }
 
@@ -118,7 +118,7 @@ pub fn scale(pass: impl Fn(u16, u16) -> Pass) -> [Pass; 2] {
 }
 
 impl Weighing {
-    /// Runs both in turns: the least nanoseconds a pixel of each.
+    /// Runs both in turns: the least nanoseconds a pixel, or a payload, of each.
     pub fn run(&self, rounds: u32) -> [f64; 2] {
         let mut passes = (self.passes)();
         let mut least = [Duration::MAX; 2];
@@ -127,7 +127,7 @@ impl Weighing {
                 *least = timed(&mut pass.run).1.min(*least);
             }
         }
-        [0, 1].map(|pass| least[pass].as_secs_f64() * 1e9 / passes[pass].pixels as f64)
+        [0, 1].map(|pass| least[pass].as_secs_f64() * 1e9 / passes[pass].units as f64)
     }
 }
 

@@ -4,18 +4,20 @@ use std::fs;
 use std::process::{Command, ExitCode};
 use std::time::Duration;
 
-use runs::bench::Timed;
-use runs::suites::{BENCHES, WEIGHINGS};
+use runs::bench::{Timed, Weighing};
+use runs::suites::{avc444_payload, BENCHES, PAYLOADS, WEIGHINGS};
 use runs::table::aligned;
 
 const ROUNDS: u32 = 41;
 
 fn main() -> ExitCode {
+    let mut names: Vec<&str> = BENCHES.iter().map(|bench| bench.name).collect();
+    names.extend(PAYLOADS.iter().map(|weighing| weighing.name));
+    names.dedup();
     let only = match std::env::args().skip(1).collect::<Vec<_>>().as_slice() {
         [] => None,
-        [option, name] if option == "--only" && BENCHES.iter().any(|bench| bench.name == name) => Some(name.clone()),
+        [option, name] if option == "--only" && names.contains(&name.as_str()) => Some(name.clone()),
         _ => {
-            let names: Vec<&str> = BENCHES.iter().map(|bench| bench.name).collect();
             eprintln!("usage: bench [--only NAME], with NAME one of {}", names.join(", "));
             return ExitCode::from(2);
         }
@@ -28,10 +30,26 @@ fn main() -> ExitCode {
     println!("buffers: none is cleared between runs");
     println!("allocations: the original's times include its own; the library makes none. Where that matters, the row says so");
     let wanted = |name: &str| only.as_ref().is_none_or(|only| only == name);
-    print!("{}", aligned(&beside_the_original(wanted)));
-    println!("\nthe library on one input against itself on another, or against plain copies, in nanoseconds a pixel; ratio: first / second");
-    print!("{}", aligned(&against_itself(wanted)));
+    show("", &beside_the_original(wanted));
+    show(
+        "\nthe library on one input against itself on another, or against plain copies, in nanoseconds a pixel; ratio: first / second\n",
+        &weighed(WEIGHINGS, wanted),
+    );
+    show(
+        &format!(
+            "\nthe reader of the AVC444 payload against plain Rust, in nanoseconds a payload; ratio: first / second; each payload: {}\n",
+            avc444_payload::INPUT
+        ),
+        &weighed(PAYLOADS, wanted),
+    );
     ExitCode::SUCCESS
+}
+
+/// Prints a table under what it is, unless it has a head alone.
+fn show(about: &str, rows: &[Vec<String>]) {
+    if rows.len() > 1 {
+        print!("{about}{}", aligned(rows));
+    }
 }
 
 fn beside_the_original(wanted: impl Fn(&str) -> bool) -> Vec<Vec<String>> {
@@ -55,19 +73,20 @@ fn beside_the_original(wanted: impl Fn(&str) -> bool) -> Vec<Vec<String>> {
     rows
 }
 
-fn against_itself(wanted: impl Fn(&str) -> bool) -> Vec<Vec<String>> {
+fn weighed(weighings: &[Weighing], wanted: impl Fn(&str) -> bool) -> Vec<Vec<String>> {
     let mut rows =
         vec![["call", "first against second", "first", "second", "ratio", "bound"].map(str::to_owned).to_vec()];
-    for weighing in WEIGHINGS.iter().filter(|weighing| wanted(weighing.name)) {
+    for weighing in weighings.iter().filter(|weighing| wanted(weighing.name)) {
         eprintln!("{}, {} ...", weighing.name, weighing.input);
         let [first, second] = weighing.run(ROUNDS);
+        let ratio = first / second;
         rows.push(vec![
             weighing.name.to_owned(),
             weighing.input.to_owned(),
             format!("{first:.3}"),
             format!("{second:.3}"),
-            format!("{:.2}", first / second),
-            held(first / second, weighing.bound),
+            if ratio < 0.05 { format!("{ratio:.4}") } else { format!("{ratio:.2}") },
+            weighing.bound.map_or("none".to_owned(), |bound| held(ratio, bound)),
         ]);
     }
     rows

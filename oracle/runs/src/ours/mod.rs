@@ -3,6 +3,7 @@
 //! A slice passes as a pointer and an element count, its own.
 
 mod answer;
+mod avc444;
 mod colour;
 mod combine;
 mod convert;
@@ -12,6 +13,7 @@ mod split;
 mod view;
 
 pub use answer::Answer;
+pub use avc444::{avc444_luma_rectangle, avc444_luma_rects, avc444_read, Avc444, Rectangle, Stream};
 pub use colour::{average, filter, forward, reverse};
 pub use combine::{apply_auxiliary_v1, apply_auxiliary_v2, apply_main_view};
 pub use convert::{to_rgba, view_to_rgba};

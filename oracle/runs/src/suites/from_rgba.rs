@@ -31,7 +31,7 @@ pub const BENCH: Bench = Bench {
     }),
 };
 
-pub const SCALE: Weighing = Weighing { name: "from_rgba", input: SCALES, bound: 2.0, passes: || scale(pass) };
+pub const SCALE: Weighing = Weighing { name: "from_rgba", input: SCALES, bound: Some(2.0), passes: || scale(pass) };
 
 /// A call of ours, which answers the number and a sum of bytes of the planes.
 fn pass(width: u16, height: u16) -> Pass {

@@ -3,6 +3,7 @@
 mod allocation_size;
 mod annex_b;
 mod apply;
+pub mod avc444_payload;
 mod avc_format;
 mod average;
 mod bytes;
@@ -97,6 +98,16 @@ pub const WEIGHINGS: &[Weighing] = &[
     apply::V2_SCALE,
     split::V1_SCALE,
     split::V2_SCALE,
+];
+
+/// The reader of the AVC444 payload against plain Rust.
+pub const PAYLOADS: &[Weighing] = &[
+    avc444_payload::READ,
+    avc444_payload::READ_WORDS,
+    avc444_payload::RECTS,
+    avc444_payload::RECTS_WORDS,
+    avc444_payload::RECTANGLE,
+    avc444_payload::RECTANGLE_WORDS,
 ];
 
 /// The suite of a name.

@@ -25,7 +25,7 @@ pub const BENCH: Bench = Bench {
     over: Over::Frames(|width, height| Sides::repeated(8, pass(width, height), move || their_sum(width, height))),
 };
 
-pub const SCALE: Weighing = Weighing { name: "new", input: SCALES, bound: 2.0, passes: || scale(pass) };
+pub const SCALE: Weighing = Weighing { name: "new", input: SCALES, bound: Some(2.0), passes: || scale(pass) };
 
 /// A call of ours, which answers the number and a sum of bytes of the planes.
 fn pass(width: u16, height: u16) -> Pass {

@@ -106,7 +106,7 @@ pub const BENCH: Bench = Bench {
     }),
 };
 
-pub const SCALE: Weighing = Weighing { name: "view_to_rgba", input: SCALES, bound: 2.0, passes: || scale(pass) };
+pub const SCALE: Weighing = Weighing { name: "view_to_rgba", input: SCALES, bound: Some(2.0), passes: || scale(pass) };
 
 /// A call of ours, which answers the number, the count and a sum of bytes.
 fn pass(width: u16, height: u16) -> Pass {

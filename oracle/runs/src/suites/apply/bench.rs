@@ -59,21 +59,21 @@ pub const V2_SMALL_RECTS_BENCH: Bench = Bench {
 };
 
 pub const MAIN_SCALE: Weighing =
-    Weighing { name: "apply_main_view", input: SCALES, bound: 2.0, passes: || scaled(&MAIN) };
+    Weighing { name: "apply_main_view", input: SCALES, bound: Some(2.0), passes: || scaled(&MAIN) };
 
 /// What is left to gain in the main view: the second pass moves as many bytes from and to as many, by copies alone.
 pub const MAIN_COPIES: Weighing = Weighing {
     name: "apply_main_view",
     input: "1920x1080 against copies of as many bytes",
-    bound: 1.2,
+    bound: Some(1.2),
     passes: || [pass(&MAIN, 1920, 1080, vec![0, 0, 1920, 1080]), copies(1920, 1080)],
 };
 
 pub const V1_SCALE: Weighing =
-    Weighing { name: "apply_auxiliary_v1", input: SCALES, bound: 2.0, passes: || scaled(&V1) };
+    Weighing { name: "apply_auxiliary_v1", input: SCALES, bound: Some(2.0), passes: || scaled(&V1) };
 
 pub const V2_SCALE: Weighing =
-    Weighing { name: "apply_auxiliary_v2", input: SCALES, bound: 2.0, passes: || scaled(&V2) };
+    Weighing { name: "apply_auxiliary_v2", input: SCALES, bound: Some(2.0), passes: || scaled(&V2) };
 
 const WHOLE: &str = ", the whole frame";
 const ODD_RECTS: &str = "1920x1080, 500 rectangles of about 64x16 with odd edges";

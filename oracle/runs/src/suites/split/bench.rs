@@ -19,8 +19,8 @@ pub const V1_BENCH: Bench =
 pub const V2_BENCH: Bench =
     Bench { name: "split_v2", input: INPUT, bound: Some(0.4), over: Over::Frames(|w, h| sides(&V2, w, h)) };
 
-pub const V1_SCALE: Weighing = Weighing { name: "split_v1", input: SCALES, bound: 2.0, passes: || scaled(&V1) };
-pub const V2_SCALE: Weighing = Weighing { name: "split_v2", input: SCALES, bound: 2.0, passes: || scaled(&V2) };
+pub const V1_SCALE: Weighing = Weighing { name: "split_v1", input: SCALES, bound: Some(2.0), passes: || scaled(&V1) };
+pub const V2_SCALE: Weighing = Weighing { name: "split_v2", input: SCALES, bound: Some(2.0), passes: || scaled(&V2) };
 
 fn scaled(call: &'static Call) -> [Pass; 2] {
     scale(|width, height| pass(call, width, height))

@@ -29,7 +29,7 @@ pub const BENCH: Bench = Bench {
 pub const ODD_EDGES: Weighing = Weighing {
     name: "to_rgba",
     input: "1920x1080: columns 1 to below 1918 against 0 to below 1918",
-    bound: 1.2,
+    bound: Some(1.2),
     passes: || {
         let size = Size { width: 1920, height: 1080 };
         [[1, 0, 1918, 1080], [0, 0, 1918, 1080]].map(|rect| pass(size, rect, FAR))
@@ -39,14 +39,14 @@ pub const ODD_EDGES: Weighing = Weighing {
 pub const SCALE: Weighing = Weighing {
     name: "to_rgba",
     input: SCALES,
-    bound: 2.0,
+    bound: Some(2.0),
     passes: || scale(|width, height| whole(width, height, FAR)),
 };
 
 pub const PLACES: Weighing = Weighing {
     name: "to_rgba",
     input: "1280x720: the output right behind V against far from it",
-    bound: 1.2,
+    bound: Some(1.2),
     passes: || [0, FAR].map(|gap| whole(1280, 720, gap)),
 };
 

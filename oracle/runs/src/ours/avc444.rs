@@ -1,0 +1,65 @@
+//! The AVC444 payload: what it carries and where, and the rectangles of its luma stream.
+
+use super::Answer;
+
+/// A stream's rectangles, and where its parts are in the payload.
+#[repr(C)]
+#[derive(Debug, Clone, Copy, PartialEq, Eq)]
+pub struct Stream {
+    pub count: usize,
+    pub rects: usize,
+    pub pairs: usize,
+    pub data: usize,
+    pub length: usize,
+}
+
+/// 0 or the number of a refusal, and what is carried.
+#[repr(C)]
+#[derive(Debug, Clone, Copy, PartialEq, Eq)]
+pub struct Avc444 {
+    pub number: u32,
+    pub kind: u32,
+    pub luma: Stream,
+    pub chroma: Stream,
+}
+
+/// 0 or the number of a refusal, and a rectangle if there is one.
+#[repr(C)]
+#[derive(Debug, Clone, Copy, PartialEq, Eq)]
+pub struct Rectangle {
+    pub number: u32,
+    pub present: bool,
+    pub left: u16,
+    pub top: u16,
+    pub right: u16,
+    pub bottom: u16,
+}
+
+// The names and the types are those of crates/haythaw.
+unsafe extern "C" {
+    fn haythaw_avc444_read(payload: *const u8, payload_count: usize) -> Avc444;
+    fn haythaw_avc444_luma_rectangle(payload: *const u8, payload_count: usize, i: usize) -> Rectangle;
+    fn haythaw_avc444_luma_rects(payload: *const u8, payload_count: usize, out: *mut u16, out_count: usize) -> Answer;
+}
+
+/// What a payload carries.
+#[inline]
+pub fn avc444_read(payload: &[u8]) -> Avc444 {
+    // SAFETY: the call reads the slice alone, and is proved for every content and length.
+    unsafe { haythaw_avc444_read(payload.as_ptr(), payload.len()) }
+}
+
+/// Rectangle `i` of the luma stream.
+#[inline]
+pub fn avc444_luma_rectangle(payload: &[u8], i: usize) -> Rectangle {
+    // SAFETY: the call reads the slice alone, and is proved for every content, length and `i`.
+    unsafe { haythaw_avc444_luma_rectangle(payload.as_ptr(), payload.len(), i) }
+}
+
+/// The rectangles of the luma stream, four numbers each.
+#[inline]
+pub fn avc444_luma_rects(payload: &[u8], out: &mut [u16]) -> Answer {
+    // SAFETY: the call reads the first slice and writes the second alone, is proved for every content and length,
+    // and the two do not overlap.
+    unsafe { haythaw_avc444_luma_rects(payload.as_ptr(), payload.len(), out.as_mut_ptr(), out.len()) }
+}
