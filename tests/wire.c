@@ -51,8 +51,9 @@ static const struct { const char *name; int count; size_t fields[MOST_FIELDS]; }
 
 static Payload payload, smallest;
 static Reading expected;
-static uint8_t *lent, *output; /* ROOM bytes each, between pages that nothing may touch */
-static const uint8_t *at;      /* where the payload lies */
+static uint8_t *lent, *output, *far; /* ROOM bytes each, and FAR, between pages that nothing may touch */
+static const uint8_t *at;            /* where the payload lies */
+static const size_t FAR = (size_t)1 << 33;
 static uint64_t seed = 1, number, smallest_number;
 static uint64_t compared, differences, differing, made[FAMILIES], answered[11];
 static enum reader how;
@@ -60,14 +61,16 @@ static enum call altered = ALTERABLE; /* none */
 static int altered_field;
 static bool quiet;
 
-static uint8_t *room(void)
+/* Memory of so many bytes, all 0; only what is written takes place. Null where there is none. */
+static uint8_t *room(size_t bytes)
 {
     size_t page = (size_t)sysconf(_SC_PAGESIZE);
-    uint8_t *map = mmap(NULL, ROOM + 2 * page, PROT_NONE, MAP_PRIVATE | MAP_ANONYMOUS, -1, 0);
-    if (map == MAP_FAILED || mprotect(map + page, ROOM, PROT_READ | PROT_WRITE)) {
+    uint8_t *map = mmap(NULL, bytes + 2 * page, PROT_NONE, MAP_PRIVATE | MAP_ANONYMOUS | MAP_NORESERVE, -1, 0);
+    if (map == MAP_FAILED || mprotect(map + page, bytes, PROT_READ | PROT_WRITE)) {
         perror("wire: no memory for a buffer");
-        exit(2);
+        return NULL;
     }
+    madvise(map + page, bytes, MADV_NOHUGEPAGE);
     return map + page;
 }
 
@@ -173,13 +176,43 @@ static void lend(void)
     at = payload.length == 0 && below(2) ? NULL : to;
 }
 
+/* The pieces of a long payload, as far as they are inside; a piece may lie on the other. */
+static void lend_long(void)
+{
+    uint8_t *to = far + FAR - payload.length;
+    memcpy(to, payload.bytes, PIECE);
+    if (payload.second < payload.length) {
+        size_t left = payload.length - payload.second, piece = left < PIECE ? left : PIECE;
+        memcpy(to + payload.second, payload.bytes + PIECE, piece);
+    }
+    at = to;
+}
+
+/* Whether the payload is as it was; the pieces of a long one, which then go. */
+static bool kept(void)
+{
+    if (payload.family != LONG) return !at || !memcmp(at, payload.bytes, payload.length);
+    uint8_t *to = far + FAR - payload.length;
+    bool same = true;
+    for (size_t k = 0; k < PIECE; k++) {
+        bool both = payload.second <= k && k < payload.second + PIECE;
+        same &= to[k] == payload.bytes[both ? PIECE + k - payload.second : k];
+    }
+    for (size_t k = payload.second; k < payload.second + PIECE && k < payload.length; k++)
+        same &= to[k] == payload.bytes[PIECE + k - payload.second];
+    for (size_t k = payload.second; k < payload.second + PIECE && k < payload.length; k++) to[k] = 0;
+    memset(to, 0, PIECE);
+    return same;
+}
+
 static void run(uint64_t which)
 {
     uint64_t before = differences;
     number = which;
     make(&payload, seed, number);
-    lend();
-    read_payload(payload.bytes, payload.length, how, &expected);
+    if (payload.family == LONG && !far) return;
+    (payload.family == LONG ? lend_long : lend)();
+    read_payload(payload.family == LONG ? at : payload.bytes, payload.length, how, &expected);
     made[payload.family]++;
     answered[expected.number]++;
 
@@ -193,8 +226,8 @@ static void run(uint64_t which)
     compare_stream(&expected.part[0], "luma's ", haythaw_avc444_luma_rectangle, haythaw_avc444_luma_pair, haythaw_avc444_luma_rects);
     compare_stream(&expected.part[1], "chroma's ", haythaw_avc444_chroma_rectangle, haythaw_avc444_chroma_pair,
                    haythaw_avc444_chroma_rects);
-    if (payload.length) alter(PAYLOAD, &payload.bytes[payload.length - 1]);
-    same(!at || !memcmp(at, payload.bytes, payload.length), "payload itself", "the ", 0);
+    if (payload.length) alter(PAYLOAD, &payload.bytes[payload.family == LONG ? 0 : payload.length - 1]);
+    same(kept(), "payload itself", "the ", 0);
 
     if (differences == before || (differing++ && payload.length >= smallest.length)) return;
     smallest = payload;
@@ -224,10 +257,12 @@ static bool traps(volatile uint8_t *byte)
 
 static int self_test(void)
 {
-    int missed = 0, fields = 0;
+    int missed = 0, readers = 0, fields = 0;
     quiet = true;
     for (int k = AS_ASKED + 1; k < READERS; k++) {
         how = (enum reader)k;
+        if (how == LENGTH_32_BITS && !far) continue; /* only a long payload shows it */
+        readers++;
         if (!noticed()) missed++, printf("wire: a wrong reader was not noticed: %s\n", reader_names[k]);
     }
     how = AS_ASKED;
@@ -235,11 +270,11 @@ static int self_test(void)
         for (altered_field = 0; altered_field < alterable[altered].count; altered_field++, fields++)
             if (!noticed()) missed++, printf("wire: not noticed, though altered: %s (%d)\n", alterable[altered].name, altered_field);
     if (noticed()) missed++, printf("wire: the reader as asked differs, and nothing was altered\n");
-    if (!traps(lent - 1) || !traps(lent + ROOM) || !traps(output + ROOM) || traps(lent))
+    if (!traps(lent - 1) || !traps(lent + ROOM) || !traps(output + ROOM) || (far && !traps(far + FAR)) || traps(lent))
         missed++, printf("wire: a byte beside a buffer may be touched\n");
     if (!missed)
         printf("wire: %d wrong readers, %d altered answers or bytes and a touch of each page beside a buffer are noticed\n",
-               READERS - 1, fields);
+               readers, fields);
     return missed != 0;
 }
 
@@ -262,13 +297,15 @@ static uint64_t number_of(int argc, char **argv, int i)
     return n;
 }
 
-static int summary(uint64_t ran)
+static int summary(void)
 {
+    uint64_t ran = 0;
+    for (int k = 0; k < FAMILIES; k++) ran += made[k];
     if (differing) {
         printf("wire: %llu payloads differ; the smallest, --seed %llu --only %llu, has %zu bytes:", (unsigned long long)differing,
                (unsigned long long)seed, (unsigned long long)smallest_number, smallest.length);
-        for (size_t k = 0; k < smallest.length; k++) printf(" %02x", smallest.bytes[k]);
-        printf("\n");
+        for (size_t k = 0; k < (smallest.family == LONG ? PIECE : smallest.length); k++) printf(" %02x", smallest.bytes[k]);
+        printf(smallest.family == LONG ? " ...\n" : "\n");
     }
     printf("wire: %llu read; refused with 8 %llu, with 9 %llu, with 10 %llu\n", (unsigned long long)answered[0],
            (unsigned long long)answered[8], (unsigned long long)answered[9], (unsigned long long)answered[10]);
@@ -281,8 +318,11 @@ static int summary(uint64_t ran)
 
 int main(int argc, char **argv)
 {
-    lent = room();
-    output = room();
+    lent = room(ROOM);
+    output = room(ROOM);
+    far = room(FAR);
+    if (!lent || !output) return 2;
+    if (!far) printf("wire: long payloads are left out\n");
     signal(SIGSEGV, trapped);
     signal(SIGBUS, trapped);
     if (argc == 2 && !strcmp(argv[1], "--self-test")) return self_test();
@@ -306,5 +346,5 @@ int main(int argc, char **argv)
                     (long)(shown - begun));
         }
     }
-    return summary(ran);
+    return summary();
 }

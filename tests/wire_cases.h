@@ -1,8 +1,9 @@
-/* The payloads of wire.c, each made of the seed and its number. A round has five kinds of them, and the next round has others:
+/* The payloads of wire.c, each made of the seed and its number. A round has six kinds of them, and the next round has others:
 
      prefixes      every prefix of good payloads, of 0 bytes to the whole
      changes       every change of one byte of good payloads, to each of the 255 other values
      boundaries    good payloads, one byte shorter or longer or neither, whose size, kind and one count have every mix of boundary values
+     long          2^30 to 2^33 bytes, nearly all of them 0, with sizes to 2^30 - 1 and few rectangles
      altered       good payloads of up to 40 rectangles in a stream, seldom over 1,000: as they are, or bits altered, or cut, or lengthened
      random        0 to 64 random bytes whose first number, and mostly the counts, are plausible */
 #ifndef WIRE_CASES_H
@@ -12,8 +13,8 @@
 #include <stdint.h>
 #include <string.h>
 
-enum family { PREFIXES, CHANGES, BOUNDARIES, ALTERED, RANDOM, FAMILIES };
-static const char *const family_names[FAMILIES] = {"prefixes", "changes of one byte", "boundaries", "altered", "random"};
+enum family { PREFIXES, CHANGES, BOUNDARIES, LONG, ALTERED, RANDOM, FAMILIES };
+static const char *const family_names[FAMILIES] = {"prefixes", "changes of one byte", "boundaries", "long", "altered", "random"};
 
 /* What a good payload is like: its kind, the rectangles and the H.264 bytes of its streams in their order on the wire, and, where
    there is one stream, what the size says, which may be anything up to the payload's end. */
@@ -40,15 +41,16 @@ enum {
     PREFIX_SHAPES = sizeof prefix_shapes / sizeof *prefix_shapes,
     CHANGE_SHAPES = sizeof change_shapes / sizeof *change_shapes,
     BOUNDARY_SHAPES = sizeof boundary_shapes / sizeof *boundary_shapes,
-    SIZES = 24, COUNTS = 25, LENGTHS = 3, KINDS = 4,
+    SIZES = 24, COUNTS = 25, LENGTHS = 3, KINDS = 4, LONG_LENGTHS = 19, LONG_SIZES = 7, PIECE = 64,
     ROUND = 250000
 };
 
-/* A payload, in room for a few bytes more. */
+/* A payload, in room for a few bytes more. A long one has a piece at its front and one where its second stream would be, if that is
+   inside; all else is 0. */
 typedef struct {
     enum family family;
-    size_t length;
-    uint8_t bytes[LONGEST];
+    size_t length, second;
+    uint8_t bytes[LONGEST]; /* of a long one, the two pieces */
 } Payload;
 
 /* Random numbers: splitmix64. */
@@ -141,6 +143,23 @@ static void make_boundary(Payload *p, const Shape *s, uint64_t k)
     put(p->bytes + 4 + (which ? first : 0), counts[k % COUNTS]);
 }
 
+static void make_long(Payload *p, uint64_t k)
+{
+    const uint64_t most = (1u << 30) - 1, full = 4 + most, four = (uint64_t)1 << 32;
+    const uint64_t lengths[LONG_LENGTHS] = {
+        full - 1, full, full + 1, full + 3, full + 4, full + 5, full + 14, full + 15, full + 100, four / 2 - 1, four / 2, four / 2 + 9,
+        four - 1, four, four + 3, four + 4, four + 8, four + 9, 2 * four - 1};
+    const uint32_t sizes[LONG_SIZES] = {0, 4, 5, 14, 1u << 29, (1u << 30) - 5, (1u << 30) - 1};
+    p->length = lengths[k % LONG_LENGTHS];
+    k /= LONG_LENGTHS;
+    uint32_t size = sizes[k % LONG_SIZES];
+    p->second = 4 + (size_t)size;
+    fill(p->bytes, 2 * PIECE);
+    put(p->bytes, size | (uint32_t)(k / LONG_SIZES) << 30);
+    put(p->bytes + 4, below(4));
+    put(p->bytes + PIECE, below(4));
+}
+
 static void make_altered(Payload *p)
 {
     int many = below(256) == 0;
@@ -207,6 +226,11 @@ static void make_bytes(Payload *p, uint64_t seed, uint64_t number)
             k -= lists[family].payloads(s);
         }
     state = seed * 0xD1342543DE82EF95u + number;
+    if (k < LONG_LENGTHS * LONG_SIZES * KINDS) {
+        p->family = LONG;
+        make_long(p, k);
+        return;
+    }
     p->family = k % 2 ? RANDOM : ALTERED;
     (k % 2 ? make_random : make_altered)(p);
 }

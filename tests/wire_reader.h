@@ -7,7 +7,8 @@
 #define WIRE_READER_H
 
 #include <stdint.h>
-#include <string.h>
+#include <stdio.h>
+#include <stdlib.h>
 
 enum { LONGEST = 1 << 16, MOST_RECTANGLES = LONGEST / 8 };
 
@@ -15,7 +16,8 @@ enum reader {
     AS_ASKED,
     SIZE_BIG_ENDIAN, SIZE_31_BITS, SIZE_WITH_HEADER, SIZE_FREE_IN_ONE, ONE_CUT_AT_SIZE, KIND_LOW, ONES_EXCHANGED, SECOND_FROM_SIZE,
     SECOND_UNTESTED, PAIRS_FIRST, RECTANGLES_ALONE, COUNT_16_BITS, COUNT_29_BITS, DATA_NOT_EMPTY, NUMBERS_BIG_ENDIAN, SIDES_EXCHANGED,
-    QUANTISER_7_BITS, FLAGS_EXCHANGED, QUALITY_FIRST, TEN_BEFORE_NINE, NINE_BEFORE_EIGHT, EIGHT_BEFORE_SHORT, KIND_IN_REFUSAL, READERS
+    QUANTISER_7_BITS, FLAGS_EXCHANGED, QUALITY_FIRST, TEN_BEFORE_NINE, NINE_BEFORE_EIGHT, EIGHT_BEFORE_SHORT, KIND_IN_REFUSAL,
+    LENGTH_32_BITS, READERS
 };
 
 static const char *const reader_names[READERS] = {
@@ -23,7 +25,8 @@ static const char *const reader_names[READERS] = {
     "kinds 1 and 2 cut at the size", "kind from the low bits", "kinds 1 and 2 exchanged", "second stream from size instead of 4 + size",
     "second stream not tested", "pairs before rectangles", "room for count x 8 bytes only", "16 bits of count", "29 bits of count",
     "H.264 bytes wanted", "big-endian rectangles", "right and bottom exchanged", "quantiser with 7 bits", "flags exchanged",
-    "quality before quantiser", "10 before 9", "9 for the size before 8", "8 before 9 in a short payload", "kind kept in a refusal"};
+    "quality before quantiser", "10 before 9", "9 for the size before 8", "8 before 9 in a short payload", "kind kept in a refusal",
+    "32 bits of the payload's length"};
 
 /* A stream: where its parts are, and what they hold. */
 typedef struct {
@@ -52,6 +55,14 @@ static int take(Ahead *ahead, unsigned bytes, uint32_t *number)
     return 1;
 }
 
+/* There is room for what is kept of rectangle i, or the program ends. */
+static void room_for(uint64_t i)
+{
+    if (i < MOST_RECTANGLES) return;
+    fprintf(stderr, "wire: a case has more rectangles than the other reader keeps\n");
+    exit(2);
+}
+
 static int take_rectangles(Ahead *ahead, Part *part, enum reader how)
 {
     part->rects = ahead->place;
@@ -59,6 +70,7 @@ static int take_rectangles(Ahead *ahead, Part *part, enum reader how)
         for (unsigned side = 0; side < 4; side++) {
             uint32_t number;
             if (!take(ahead, 2, &number)) return 0;
+            room_for(i);
             if (how == NUMBERS_BIG_ENDIAN) number = (number & 255) << 8 | number >> 8;
             part->rectangle[i][how == SIDES_EXCHANGED && side > 1 ? 5 - side : side] = (uint16_t)number;
         }
@@ -71,6 +83,7 @@ static int take_pairs(Ahead *ahead, Part *part, enum reader how)
     for (uint64_t i = 0; i < part->count; i++) {
         uint32_t quantiser, quality;
         if (!take(ahead, 1, &quantiser) || !take(ahead, 1, &quality)) return how == RECTANGLES_ALONE;
+        room_for(i);
         if (how == QUALITY_FIRST) {
             uint32_t first = quantiser;
             quantiser = quality;
@@ -132,6 +145,7 @@ static int take_streams(Ahead *ahead, Reading *r, uint64_t size, uint64_t length
 
 static void read_payload(const uint8_t *bytes, uint64_t length, enum reader how, Reading *r)
 {
+    if (how == LENGTH_32_BITS) length = (uint32_t)length;
     Ahead ahead = {bytes, 0, length};
     uint32_t first;
     r->kind = 0;
