@@ -2,6 +2,7 @@
 -- payload"), and one rectangle or pair of it.
 --
 --   streamOf w a, placesOf s w      one of the two streams of an answer, and of the payload s: all 0 where it is not carried, and in a refusal
+--   hereIn s w                      the number of the payload, and where that stream's parts stand
 --   partsAt s x, partsOf s w        the bytes of a stream's count, of its rectangles, of its pairs, and its H.264 bytes, each where it stands
 --   carried w kind, streamBytes s w whether a kind carries the stream, and all its bytes, if it is carried
 --   rectangleOf s w i               rectangle i: present where i is below the count, four u16
@@ -25,6 +26,7 @@ use Rattle.wire.specs.Reading.{kindOf, carriesLuma, carriesChroma, readNumberOf
 use Rattle.wire.specs.Format.{Parts, bytesOf}
 use Rattle.wire_parts.specs.declared.Which.{Which}
 use Rattle.wire_parts.specs.declared.Which.the-variants.{Luma, Chroma}
+use Rattle.wire_parts.specs.declared.Here.{Here}
 use Rattle.wire_parts.specs.declared.Rectangle.{Rectangle}
 use Rattle.wire_parts.specs.declared.Pair.{Pair}
 
@@ -34,6 +36,9 @@ streamOf Chroma a = a .chroma
 
 abbrev pub placesOf : List ℕ → Which → Stream
 placesOf s w = streamOf w (readOf s)
+
+abbrev pub hereIn : List ℕ → Which → Here
+hereIn s w = record { number = readNumberOf s; places = placesOf s w }
 
 abbrev pub partsAt : List ℕ → Stream → Parts
 partsAt s x = record {

@@ -12,7 +12,7 @@ ghost use Rattle.lent.specs.Outcome.{Outcome, OwnPart};
 ghost use Rattle.lent.specs.Paint.{paint};
 ghost use Rattle.fields.specs.Fields.{u16At};
 ghost use Rattle.wire.specs.Reading.{readNumberOf, Inside};
-ghost use Rattle.wire_parts.specs.Parts.{streamOf, placesOf, partsOf, rectangleOf, pairOf, CopyOutcome};
+ghost use Rattle.wire_parts.specs.Parts.{streamOf, placesOf, hereIn, partsOf, rectangleOf, pairOf, CopyOutcome};
 use wire::Stream;
 
 // One of the two streams that a payload may carry.
@@ -43,6 +43,12 @@ pub struct Pair {
     pub quality: u8,
 }
 
+// The payload's number, and where the parts of one of its streams stand.
+struct Here {
+    number: u32,
+    places: Stream,
+}
+
 fn pick(a: wire::Avc444, which: Which) -> Stream
     ensures { λ r. ⌜ r ≡ streamOf which a ⌝ }
 {
@@ -60,11 +66,16 @@ pub fn number(payload: &[u8]) -> u32
     a.number
 }
 
-// Where the parts of a stream stand.
-fn find(payload: &[u8], which: Which) -> Stream
-    ensures { λ r. ⌜ (r ≡ placesOf (now (payload .entry)) which) × Inside r (length (now (payload .entry))) ⌝ }
+// The payload is read once, and its parts lie inside it.
+fn find(payload: &[u8], which: Which) -> Here
+    ensures { λ r. ⌜ (r ≡ hereIn (now (payload .entry)) which) × Inside (r .places) (length (now (payload .entry))) ⌝ }
 {
-    pick(wire::read(payload), which)
+    let a = wire::read(payload);
+    let number = a.number;
+    Here {
+        number: number,
+        places: pick(a, which),
+    }
 }
 
 // n bytes of the payload, from start on.
@@ -80,7 +91,7 @@ fn cut<'a>(payload: &'a [u8], start: usize, n: usize) -> &'a [u8]
 pub fn rects<'a>(payload: &'a [u8], which: Which) -> &'a [u8]
     ensures { λ r. ⌜ OwnPart (payload .entry) r (placesOf (now (payload .entry)) which .rects) (partsOf (now (payload .entry)) which .rects) ⌝ }
 {
-    let x = find(payload, which);
+    let x = find(payload, which).places;
     cut(payload, x.rects, 8 * x.count)
 }
 
@@ -88,7 +99,7 @@ pub fn rects<'a>(payload: &'a [u8], which: Which) -> &'a [u8]
 pub fn pairs<'a>(payload: &'a [u8], which: Which) -> &'a [u8]
     ensures { λ r. ⌜ OwnPart (payload .entry) r (placesOf (now (payload .entry)) which .pairs) (partsOf (now (payload .entry)) which .pairs) ⌝ }
 {
-    let x = find(payload, which);
+    let x = find(payload, which).places;
     cut(payload, x.pairs, 2 * x.count)
 }
 
@@ -96,7 +107,7 @@ pub fn pairs<'a>(payload: &'a [u8], which: Which) -> &'a [u8]
 pub fn h264<'a>(payload: &'a [u8], which: Which) -> &'a [u8]
     ensures { λ r. ⌜ OwnPart (payload .entry) r (placesOf (now (payload .entry)) which .«data») (partsOf (now (payload .entry)) which .h264) ⌝ }
 {
-    let x = find(payload, which);
+    let x = find(payload, which).places;
     cut(payload, x.data, x.length)
 }
 
@@ -104,8 +115,9 @@ pub fn h264<'a>(payload: &'a [u8], which: Which) -> &'a [u8]
 pub fn rectangle_at(payload: &[u8], which: Which, i: usize) -> Rectangle
     ensures { λ r. ⌜ Outcome (rectangleOf (now (payload .entry)) which i) [] r [] ⌝ }
 {
-    let number = number(payload);
-    let x = find(payload, which);
+    let here = find(payload, which);
+    let number = here.number;
+    let x = here.places;
     if i >= x.count {
         return Rectangle {
             number: number,
@@ -131,8 +143,9 @@ pub fn rectangle_at(payload: &[u8], which: Which, i: usize) -> Rectangle
 pub fn pair_at(payload: &[u8], which: Which, i: usize) -> Pair
     ensures { λ r. ⌜ Outcome (pairOf (now (payload .entry)) which i) [] r [] ⌝ }
 {
-    let number = number(payload);
-    let x = find(payload, which);
+    let here = find(payload, which);
+    let number = here.number;
+    let x = here.places;
     if i >= x.count {
         return Pair {
             number: number,
@@ -171,14 +184,14 @@ fn put_numbers(s: &[u8], at: usize, out: &mut [u16], n: usize)
 pub fn copy_rects(payload: &[u8], which: Which, out: &mut [u16]) -> lent::Answer
     ensures { λ r. ⌜ CopyOutcome (now (payload .entry)) which (now (out .entry)) r (now (out .exit) ∷ []) ⌝ }
 {
-    let number = number(payload);
-    if number != 0 {
+    let here = find(payload, which);
+    if here.number != 0 {
         return lent::Answer {
-            number: number,
+            number: here.number,
             count: 0,
         };
     }
-    let x = find(payload, which);
+    let x = here.places;
     if out.len() / 4 < x.count {
         return lent::Answer {
             number: 6,

@@ -2,25 +2,25 @@
 -- Assumes nothing.
 use Prim.Native.Nat.{_+_, _*_}
 use native.Mathlib.Omega.{arith}
-use mathlib.Core.Path.{refl, _∙_}
+use mathlib.Core.Path.{refl, ap, _∙_}
 use mathlib.Core.Bool.{true}
 use lib.ListN.{getD}
+use Rattle.wire_parts.specs.declared.Here.{Here}
 use Rattle.wire_parts.proofs.Parts.{pair-none, pair-some}
 use borrow.Author.Needs.{needs}
 use Rattle.wire_parts.proofs.pair_at.Statement.{statement}
 use Rattle.wire_parts.proofs.pair_at.Tie as tie
 
-number-requires : tie.Need-number-requires
-number-requires c κs = search needs
-
 find-requires : tie.Need-find-requires
 find-requires c κs = search needs
 
 returns : tie.Need-returns
-returns c = record {
-  answer = pair-none _ _ _ (c .before .before .before .number .ensures) (c .before .before .find .ensures .0) (omega arith);
-  buffers = refl;
-}
+returns c =
+    let f = c .before .before .before .find in
+    record {
+      answer = pair-none _ _ _ (ap (λ (h : Here). h .number) (f .ensures .0)) (ap (λ (h : Here). h .places) (f .ensures .0)) (omega arith);
+      buffers = refl;
+    }
 
 mul-at : tie.Need-mul-at
 mul-at c = search needs
@@ -34,22 +34,22 @@ shared-slice-read-quantiser-in c = search needs
 quantiser-in-requires : tie.Need-quantiser-in-requires
 quantiser-in-requires c κs = search needs
 
-add-t9 : tie.Need-add-t9
-add-t9 c = search needs
+add-t10 : tie.Need-add-t10
+add-t10 c = search needs
 
-shared-slice-read-t11 : tie.Need-shared-slice-read-t11
-shared-slice-read-t11 c = search needs
+shared-slice-read-t12 : tie.Need-shared-slice-read-t12
+shared-slice-read-t12 c = search needs
 
 returns-2 : tie.Need-returns-2
 returns-2 c =
     let q = c .before .quantiser-in .ensures in
-    let f = c .before .before .before .before .before .before in
-    let a = f .before .before .before .args in
-    let n = f .before .number .result in
+    let b = c .before .before .before .before .before .before .before in
+    let f = b .find in
+    let a = b .before .before .args in
     record {
       answer =
-          (λ i. record { number = n; present = true; value = q i .value; reserved = q i .reserved; progressive = q i .progressive; quality = getD (a .payload .now) (f .find .result .pairs + 2 * a .i + 1) 0 })
-          ∙ pair-some _ _ _ (f .before .number .ensures) (f .find .ensures .0) (omega arith);
+          (λ i. record { number = f .result .number; present = true; value = q i .value; reserved = q i .reserved; progressive = q i .progressive; quality = getD (a .payload .now) (f .result .places .pairs + 2 * a .i + 1) 0 })
+          ∙ pair-some _ _ _ (ap (λ (h : Here). h .number) (f .ensures .0)) (ap (λ (h : Here). h .places) (f .ensures .0)) (omega arith);
       buffers = refl;
     }
 
@@ -57,13 +57,12 @@ pub pair-at-spec : {M : Type 1} → statement M
 pair-at-spec =
     tie.close
     (tie.spec
-    number-requires
     find-requires
     returns
     mul-at
     add-at
     shared-slice-read-quantiser-in
     quantiser-in-requires
-    add-t9
-    shared-slice-read-t11
+    add-t10
+    shared-slice-read-t12
     returns-2)

@@ -1,24 +1,24 @@
 -- `wire_parts::rectangle_at` meets its contract: rectangle i lies inside the payload where i is below the count.
 -- Assumes nothing.
 use native.Mathlib.Omega.{arith}
-use mathlib.Core.Path.{refl, _∙_}
+use mathlib.Core.Path.{refl, ap, _∙_}
 use mathlib.Core.Bool.{true}
+use Rattle.wire_parts.specs.declared.Here.{Here}
 use Rattle.wire_parts.proofs.Parts.{rectangle-none, rectangle-some}
 use borrow.Author.Needs.{needs}
 use Rattle.wire_parts.proofs.rectangle_at.Statement.{statement}
 use Rattle.wire_parts.proofs.rectangle_at.Tie as tie
 
-number-requires : tie.Need-number-requires
-number-requires c κs = search needs
-
 find-requires : tie.Need-find-requires
 find-requires c κs = search needs
 
 returns : tie.Need-returns
-returns c = record {
-  answer = rectangle-none _ _ _ (c .before .before .before .number .ensures) (c .before .before .find .ensures .0) (omega arith);
-  buffers = refl;
-}
+returns c =
+    let f = c .before .before .before .find in
+    record {
+      answer = rectangle-none _ _ _ (ap (λ (h : Here). h .number) (f .ensures .0)) (ap (λ (h : Here). h .places) (f .ensures .0)) (omega arith);
+      buffers = refl;
+    }
 
 mul-at : tie.Need-mul-at
 mul-at c = search needs
@@ -50,12 +50,11 @@ u16-at-requires-4 c κs = search needs
 returns-2 : tie.Need-returns-2
 returns-2 c =
     let b = c .before .before .before in
-    let f = b .before .before .before .before in
-    let n = f .before .number .result in
+    let f = b .before .before .before .before .before .find in
     record {
       answer =
-          (λ i. record { number = n; present = true; left = b .u16-at .ensures i; top = c .before .before .u16-at2 .ensures i; right = c .before .u16-at3 .ensures i; bottom = c .u16-at4 .ensures i })
-          ∙ rectangle-some _ _ _ (f .before .number .ensures) (f .find .ensures .0) (omega arith);
+          (λ i. record { number = f .result .number; present = true; left = b .u16-at .ensures i; top = c .before .before .u16-at2 .ensures i; right = c .before .u16-at3 .ensures i; bottom = c .u16-at4 .ensures i })
+          ∙ rectangle-some _ _ _ (ap (λ (h : Here). h .number) (f .ensures .0)) (ap (λ (h : Here). h .places) (f .ensures .0)) (omega arith);
       buffers = refl;
     }
 
@@ -63,7 +62,6 @@ pub rectangle-at-spec : {M : Type 1} → statement M
 rectangle-at-spec =
     tie.close
     (tie.spec
-    number-requires
     find-requires
     returns
     mul-at
