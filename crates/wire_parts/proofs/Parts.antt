@@ -11,15 +11,23 @@ use Rattle.lent.specs.Paint.{paint}
 use Rattle.lent.proofs.Bools.{cond-true, cond-false}
 use Rattle.fields.specs.Fields.{u16At}
 use Rattle.wire.specs.declared.Stream.{Stream}
-use Rattle.wire.specs.Reading.{readNumberOf, Inside}
-use Rattle.wire.proofs.Exactly.{read-inside}
+use Rattle.wire.specs.declared.Avc444.{Avc444}
+use Rattle.wire.specs.Reading.{readNumberOf, readOf, Inside}
+use Rattle.wire.proofs.Exactly.{answer-number, read-inside}
 use Rattle.wire_parts.specs.declared.Which.{Which}
 use Rattle.wire_parts.specs.declared.Which.the-variants.{Luma, Chroma}
-use Rattle.wire_parts.specs.Parts.{placesOf, rectangleIn, noRectangle, rectangleOf, pairIn, noPair, pairOf, numbersOf, copyNumberOf}
+use Rattle.wire_parts.specs.Parts.{streamOf, placesOf, hereIn, rectangleIn, noRectangle, rectangleOf, pairIn, noPair, pairOf, numbersOf, copyNumberOf}
 
 pub inside : (s : List ℕ) (w : Which) → Inside (placesOf s w) (length s)
 inside s Luma = read-inside s .0
 inside s Chroma = read-inside s .1
+
+-- the number and the stream that are taken out of what was read
+pub taken : (s : List ℕ) (w v : Which) (a : Avc444) → a ≡ readOf s → w ≡ v → (record { number = a .number; places = streamOf v a } ≡ hereIn s w) × Inside (streamOf v a) (length s)
+taken s w v a is e =
+    let number-is = ap (λ (x : Avc444). x .number) is ∙ answer-number s in
+    let places-are : streamOf v a ≡ placesOf s w = (λ i. streamOf (sym e i) (is i)) in
+    (λ i. record { number = number-is i; places = places-are i }, subst (λ (x : Stream). Inside x (length s)) (sym places-are) (inside s w))
 
 -- one rectangle and one pair, from what the calls found: n is the number, x the stream
 module _ (s : List ℕ) (w : Which) (i : ℕ) {n : ℕ} {x : Stream} (is-number : n ≡ readNumberOf s) (is-stream : x ≡ placesOf s w) where

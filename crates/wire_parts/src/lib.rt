@@ -12,7 +12,7 @@ ghost use Rattle.lent.specs.Outcome.{Outcome, OwnPart};
 ghost use Rattle.lent.specs.Paint.{paint};
 ghost use Rattle.fields.specs.Fields.{u16At};
 ghost use Rattle.wire.specs.Reading.{readNumberOf, Inside};
-ghost use Rattle.wire_parts.specs.Parts.{streamOf, placesOf, hereIn, partsOf, rectangleOf, pairOf, CopyOutcome};
+ghost use Rattle.wire_parts.specs.Parts.{placesOf, hereIn, partsOf, rectangleOf, pairOf, CopyOutcome};
 use wire::Stream;
 
 // One of the two streams that a payload may carry.
@@ -49,15 +49,6 @@ struct Here {
     places: Stream,
 }
 
-fn pick(a: wire::Avc444, which: Which) -> Stream
-    ensures { λ r. ⌜ r ≡ streamOf which a ⌝ }
-{
-    match which {
-        Which::Luma => a.luma,
-        Which::Chroma => a.chroma,
-    }
-}
-
 // 0, or the refusal of the payload: the number that stands beside each part below.
 pub fn number(payload: &[u8]) -> u32
     ensures { λ r. ⌜ r ≡ readNumberOf (now (payload .entry)) ⌝ }
@@ -71,10 +62,17 @@ fn find(payload: &[u8], which: Which) -> Here
     ensures { λ r. ⌜ (r ≡ hereIn (now (payload .entry)) which) × Inside (r .places) (length (now (payload .entry))) ⌝ }
 {
     let a = wire::read(payload);
-    let number = a.number;
-    Here {
-        number: number,
-        places: pick(a, which),
+    let luma = a.luma;
+    let chroma = a.chroma;
+    match which {
+        Which::Luma => Here {
+            number: a.number,
+            places: luma,
+        },
+        Which::Chroma => Here {
+            number: a.number,
+            places: chroma,
+        },
     }
 }
 

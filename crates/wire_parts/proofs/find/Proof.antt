@@ -1,14 +1,7 @@
 -- `wire_parts::find` meets its contract: one stream of what `wire::read` answers, whose parts lie inside the payload.
 -- Assumes nothing.
-use mathlib.Core.Path.{sym, ap, subst, _∙_}
-use lib.ListN.{length}
-use denote.Ref.{now}
-use Rattle.wire.specs.declared.Stream.{Stream}
-use Rattle.wire.specs.declared.Avc444.{Avc444}
-use Rattle.wire.specs.Reading.{Inside}
-use Rattle.wire.proofs.Exactly.{answer-number}
-use Rattle.wire_parts.specs.Parts.{streamOf}
-use Rattle.wire_parts.proofs.Parts.{inside}
+use Rattle.wire_parts.specs.declared.Which.the-variants.{Luma, Chroma}
+use Rattle.wire_parts.proofs.Parts.{taken}
 use borrow.Author.Needs.{needs}
 use Rattle.wire_parts.proofs.find.Statement.{statement}
 use Rattle.wire_parts.proofs.find.Tie as tie
@@ -16,15 +9,17 @@ use Rattle.wire_parts.proofs.find.Tie as tie
 read-requires : tie.Need-read-requires
 read-requires c κs = search needs
 
-pick-requires : tie.Need-pick-requires
-pick-requires c κs = search needs
+enum-told : tie.Need-enum-told
+enum-told c = search needs
+
+enum-told-2 : tie.Need-enum-told-2
+enum-told-2 c = search needs
 
 returns : tie.Need-returns
-returns c =
-    let a = c .before .before .before .args in
-    let number-is = ap (λ (x : Avc444). x .number) (c .before .read .ensures .answer) ∙ answer-number (now (a .payload)) in
-    let places-are = c .pick .ensures ∙ ap (streamOf (a .which)) (c .before .read .ensures .answer) in
-    (λ i. record { number = number-is i; places = places-are i }, subst (λ (x : Stream). Inside x (length (now (a .payload)))) (sym places-are) (inside (now (a .payload)) (a .which)))
+returns c = taken _ _ Luma _ (c .before .before .before .before .read .ensures .answer) (c .enum-told .given .1)
+
+returns-2 : tie.Need-returns-2
+returns-2 c = taken _ _ Chroma _ (c .before .before .before .before .read .ensures .answer) (c .enum-told2 .given .1)
 
 pub find-spec : {M : Type 1} → statement M
-find-spec = tie.close (tie.spec read-requires pick-requires returns)
+find-spec = tie.close (tie.spec read-requires enum-told enum-told-2 returns returns-2)
