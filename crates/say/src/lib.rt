@@ -13,6 +13,24 @@ pub fn number(n: usize) {
     io::print_decimal(STDOUT_FILENO, n as u64);
 }
 
+fn dotted(n: u16, before: u16) {
+    if n == before {
+        text(b" .");
+        return;
+    }
+    text(b" ");
+    number(n as usize);
+}
+
+// Numbers that were all the same before a call, each with a space in front: a dot is one that is as it was.
+pub fn numbers(s: &[u16], before: u16) {
+    let mut i = 0;
+    while i < s.len() {
+        dotted(s[i], before);
+        i += 1;
+    }
+}
+
 // The Adler-32 of all bytes.
 pub fn checksum(s: &[u8]) {
     io::print_hex(STDOUT_FILENO, replay::checksum(s) as u64, 8);
