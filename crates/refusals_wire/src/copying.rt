@@ -12,11 +12,10 @@ fn into(s: &[u8], which: Which, out: &mut [u16], room: usize) -> lent::Answer
     wire_parts::copy_rects(s, which, &mut out[0..room])
 }
 
-fn answer(name: &[u8], s: &[u8], which: Which, room: usize)
-    requires { ⌜ room ≤ 9 ⌝ }
-{
+fn answer(name: &[u8], s: &[u8], which: Which, room: usize) {
     let mut out = [43690u16; 9];
-    let a = into(s, which, &mut out, room);
+    let end = lent::least(room, 9);
+    let a = into(s, which, &mut out, end);
     say::text(b"copy: ");
     say::answer(name, a);
     say::text(b",");
@@ -35,26 +34,23 @@ fn line(
     other: usize,
     also: u8,
 )
-    requires { ⌜ (room ≤ 9) × (n ≤ 33) × (at < 33) × (other < 33) ⌝ }
+    requires { ⌜ (at < 33) × (other < 33) ⌝ }
 {
     let s = payloads::changed(at, value, other, also);
     let before = payloads::changed(at, value, other, also);
-    answer(name, &s[0..n], which, room);
+    let end = lent::least(n, 33);
+    answer(name, &s[0..end], which, room);
     say::compared(&s, &before);
     say::text(b"\n");
 }
 
 // The same with the size and the kind's byte changed.
-fn head(name: &[u8], which: Which, room: usize, n: usize, size: u8, kind: u8)
-    requires { ⌜ (room ≤ 9) × (n ≤ 33) ⌝ }
-{
+fn head(name: &[u8], which: Which, room: usize, n: usize, size: u8, kind: u8) {
     line(name, which, room, n, 0, size, 3, kind);
 }
 
 // Luma only, with two rectangles.
-fn double(name: &[u8], room: usize)
-    requires { ⌜ room ≤ 9 ⌝ }
-{
+fn double(name: &[u8], room: usize) {
     line(name, Which::Luma, room, 28, 3, 64, 4, 2);
 }
 

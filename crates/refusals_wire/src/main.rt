@@ -3,16 +3,14 @@
 // was before. All numbers of the copy's output are 43690 before, and a dot is one that is as it was.
 // The file `stdout` beside src/ was written by hand from the document. A call's lines are a file of src/ and a line of `main`.
 mod copying;
-mod pairing;
 mod parting;
 mod payloads;
+mod places;
 mod reading;
-mod rectangles;
 
 fn main() {
     reading::lines();
-    rectangles::lines();
-    pairing::lines();
+    places::lines();
     copying::lines();
     parting::lines();
 }

