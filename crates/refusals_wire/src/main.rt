@@ -1,16 +1,119 @@
 // Each number of document 02's E1, run at the edge where it begins: exact, one short and one over. 9, 8, 9 and 10, in this order, and 6
-// of the copy after them. One line for each case: its name, the number, what else the call answers, and whether the payload is as it
-// was before. All numbers of the copy's output are 43690 before, and a dot is one that is as it was.
-// The file `stdout` beside src/ was written by hand from the document. A call's lines are a file of src/ and a line of `main`.
-mod copying;
-mod parting;
-mod payloads;
-mod places;
-mod reading;
+// of the copy after them. One line for each case of the input: its name, the number, what else the call answers, and whether the payload
+// is as it was before.
+// The file `stdout` beside src/ was written by hand from the document. A line of `stdin` is a case: its name, a tab, and bytes in
+// hexadecimal. The first says which call, as in `call`; the second which stream, 0 for luma and 1 for chroma; the third which place, or
+// how many numbers of output. The payload follows.
+mod answers;
+
+use libc::STDIN_FILENO;
+use wire_parts::Which;
+ghost use Prim.Native.Nat.{_*_, _≤_, _<_};
+ghost use lib.ListN.{length};
+
+// Where a byte stands next, from a place on; the end where it does not.
+fn find(s: &[u8], at: usize, byte: u8) -> usize
+    requires { ⌜ at ≤ length (now s) ⌝ }
+    ensures { λ r. ⌜ (at ≤ r) × (r ≤ length (now (s .entry))) ⌝ }
+{
+    let mut i = at;
+    while i < s.len() {
+        if s[i] == byte {
+            return i;
+        }
+        i += 1;
+    }
+    i
+}
+
+fn digit(c: u8) -> u8
+    ensures { λ r. ⌜ r < 16 ⌝ }
+{
+    match c {
+        b'0'..=b'9' => c - b'0',
+        b'a'..=b'f' => c - b'a' + 10,
+        _ => 0,
+    }
+}
+
+// The first n bytes of out become those that are written in text, each as two digits behind a space or a tab.
+fn decode(text: &[u8], out: &mut [u8], n: usize)
+    requires { ⌜ (3 * n ≤ length (now text)) × (n ≤ length (now out)) ⌝ }
+{
+    let mut k = 0;
+    while k < n {
+        out[k] = 16 * digit(text[3 * k + 1]) + digit(text[3 * k + 2]);
+        k += 1;
+    }
+}
+
+fn stream(which: u8) -> Which {
+    if which == 0 {
+        Which::Luma
+    } else {
+        Which::Chroma
+    }
+}
+
+// A place: 255 is 2^64 - 1, and 254 is 2^63, so many rectangles or pairs as take 0 bytes in a machine word.
+fn place(third: u8) -> usize {
+    if third == 255 {
+        return usize::MAX;
+    }
+    if third == 254 {
+        return 9223372036854775808;
+    }
+    third as usize
+}
+
+fn call(which_call: u8, which: Which, third: u8, payload: &[u8]) {
+    match which_call {
+        0 => answers::read(payload),
+        1 => answers::rectangle(wire_parts::rectangle_at(payload, which, place(third))),
+        2 => answers::pair(wire_parts::pair_at(payload, which, place(third))),
+        3 => answers::copied(payload, which, place(third)),
+        _ => answers::parts(payload, which),
+    }
+}
+
+// The call, and whether the bytes are as they were.
+fn run(s: &[u8], before: &[u8]) {
+    if s.len() < 3 {
+        say::text(b"no case");
+        return;
+    }
+    call(s[0], stream(s[1]), s[2], &s[3..]);
+    say::text(b", ");
+    say::compared(s, before);
+}
+
+fn case(text: &[u8]) {
+    let mut s = [0u8; 64];
+    let mut before = [0u8; 64];
+    let tab = find(text, 0, b'\t');
+    let n = lent::least((text.len() - tab) / 3, 64);
+    decode(&text[tab..], &mut s, n);
+    decode(&text[tab..], &mut before, n);
+    say::text(&text[0..tab]);
+    say::text(b": ");
+    run(&s[0..n], &before[0..n]);
+    say::text(b"\n");
+}
+
+fn cases(s: &[u8]) {
+    let mut at = 0;
+    while at < s.len() {
+        let end = find(s, at, b'\n');
+        case(&s[at..end]);
+        if end == s.len() {
+            return;
+        }
+        at = end + 1;
+    }
+}
 
 fn main() {
-    reading::lines();
-    places::lines();
-    copying::lines();
-    parting::lines();
+    let mut input = io::large_buffer();
+    let n = io::read_full(STDIN_FILENO, &mut input);
+    cases(&input[..n]);
 }
