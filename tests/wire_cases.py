@@ -1,6 +1,7 @@
 #!/usr/bin/env python3
 """The stored payloads of crates/replay_wire, and what has to be printed of each: a generator and a reader of AVC444 payloads written from
-request E1 of document 02 alone. With --write both files are written anew; without it they have to be what would be written.
+the words of request E1 of document 02 alone (6, an output that is too short, is of document 01's table). With --write both files are
+written anew; without it they have to be what would be written.
 
 Then some wrong readers are asked, and each has to answer at least one of the stored payloads otherwise: the cases notice it.
 Last line `wire_cases: N payloads, M wrong readers noticed`; exit status 1 if a file differs or a wrong reader is not noticed."""
@@ -50,7 +51,7 @@ class Reader:
         return None if data > end else (count, rects, pairs, data, end - data)
 
     def quantiser(self, byte):
-        """Six bits of value and two flags."""
+        """Six bits of value, and above them two flags."""
         return byte & 0b111111, byte >> 6 & 1, byte >> 7
 
     def order(self, held):
@@ -174,7 +175,7 @@ def cases():
         payload(1, 0, stream(0, 0)), payload(1, 4, stream(0, 9)), payload(1, 0, stream(3, 2)),
         payload(2, 0, stream(0, 0)), payload(2, 24, stream(2, 0)), payload(2, 0, stream(4, 300)),
         whole(stream(300, 7), stream(257, 260, 13)), payload(1, 4, stream(513, 0)),
-        whole(b'\2\0\0\0' + bytes([0xAA] * 20), b'\1\0\0\0' + bytes([0xFF] * 10)),
+        whole(four(2) + b'\x80' * 20, four(1) + b'\xff' * 10),
     ]
     yield from good
     for byte in 0, 1, 2, 4, 8, 16, 32, 63, 64, 65, 127, 128, 129, 191, 192, 254, 255:

@@ -1,4 +1,4 @@
--- `refusals_wire::find` meets its contract: the place is between the start and the end, and what is left of the bytes falls. Assumes nothing.
+-- `refusals_wire::find` meets its contract: the place is from the start to the end, and what is left of the bytes falls. Assumes nothing.
 use Prim.Native.Nat.{_-_, _≤_}
 use borrow.Author.Needs.{needs}
 use lib.ListN.{length}
