@@ -1,6 +1,6 @@
 #!/usr/bin/env bash
 # The C boundary: compiles bind/c/test.c against the library for this machine and runs it, plainly, with the compiler's
-# sanitizers and under valgrind, as far as these are at hand; compiles and runs the example, the demo's program, and the header as
+# sanitizers and under valgrind, as far as these are at hand; compiles and runs the examples, the demo's program, and the header as
 # C++; and looks at what the library asks of the program that links it. It prints what ran, then the plain run's
 # `c: N checks, 0 wrong`. Status 1 if anything is wrong.
 set -euo pipefail
@@ -51,7 +51,9 @@ fi
 
 cc "${strict[@]}" bind/c/example.c "$library" -o "$made/example"
 [[ $("$made/example") == 'views of 16 x 16; 4 bytes: 252 0 0' ]] || { echo 'c: FAILED: example.c'; exit 1; }
-ran+=(example)
+cc "${strict[@]}" bind/c/payload.c "$library" -o "$made/payload"
+[[ $("$made/payload") == 'kind 0; luma 3 bytes at 18, chroma 2 bytes at 25; 4 numbers: 0 0 64 32' ]] || { echo 'c: FAILED: payload.c'; exit 1; }
+ran+=(examples)
 
 # The demo's program ends with 0 only if both layouts show the strip as it has to be.
 cc "${strict[@]}" strip/strip.c "$library" -o "$made/strip"
