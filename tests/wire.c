@@ -1,6 +1,6 @@
 /* The reader of the AVC444 payload in the library beside another one, written from request E1's words alone (wire_reader.h).
 
-   A case is a payload (wire_cases.h) in memory that ends where a page begins that nothing may touch, or begins where one ends. The
+   A case is a payload (wire_payloads.h) in memory that ends where a page begins that nothing may touch, or begins where one ends. The
    library reads it, answers rectangles and pairs of both streams at places inside and outside them, and copies the rectangles of both
    into outputs that are exact, one number short, longer, empty and null, each before such a page too. Every field of every answer, and
    every byte of every output and around it, is compared with what the other reader says; the payload has to be as it was.
@@ -24,7 +24,7 @@
 
 #include "haythaw.h"
 #include "wire_reader.h"
-#include "wire_cases.h"
+#include "wire_payloads.h"
 
 enum { AROUND = 8, PLACES = 11, ROOM = 2 * LONGEST };
 

@@ -6,8 +6,8 @@
      long          2^30 to 2^33 bytes, nearly all of them 0, with sizes to 2^30 - 1 and few rectangles
      altered       good payloads of up to 40 rectangles in a stream, seldom over 1,000: as they are, or bits altered, or cut, or lengthened
      random        0 to 64 random bytes whose first number, and mostly the counts, are plausible */
-#ifndef WIRE_CASES_H
-#define WIRE_CASES_H
+#ifndef WIRE_PAYLOADS_H
+#define WIRE_PAYLOADS_H
 
 #include <stddef.h>
 #include <stdint.h>
