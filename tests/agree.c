@@ -13,28 +13,12 @@
 #include <stdio.h>
 #include <stdlib.h>
 #include <string.h>
-#include <time.h>
 
 #include "haythaw.h"
+#include "run.h"
 
 enum { GUARD = 24, RECTS = 12 };
 static const size_t PLANE = (size_t)16 << 20; /* a plane stays under this */
-
-/* Random numbers: splitmix64. */
-static uint64_t state;
-
-static uint64_t any(void)
-{
-    uint64_t z = (state += 0x9E3779B97F4A7C15u);
-    z = (z ^ z >> 30) * 0xBF58476D1CE4E5B9u;
-    z = (z ^ z >> 27) * 0x94D049BB133111EBu;
-    return z ^ z >> 31;
-}
-
-static uint32_t below(uint32_t n)
-{
-    return (uint32_t)(any() % n);
-}
 
 /* A plane of a picture or of a view, with GUARD bytes more that no call may change. */
 typedef struct { uint8_t *at; size_t plane, lent; } Lent;
@@ -307,41 +291,12 @@ static int self_test(void)
     return 0;
 }
 
-static uint64_t number_of(int argc, char **argv, int at)
-{
-    char *end = "";
-    uint64_t n = at < argc ? strtoull(argv[at], &end, 10) : 0;
-    if (at >= argc || *end || !*argv[at]) {
-        fprintf(stderr, "agree: %s wants a number\n", argv[at - 1]);
-        exit(2);
-    }
-    return n;
-}
-
 int main(int argc, char **argv)
 {
     if (argc == 2 && !strcmp(argv[1], "--self-test")) return self_test();
-    uint64_t seed = 1, cases = 40000, seconds = 0, only = UINT64_MAX;
-    for (int i = 1; i < argc; i += 2) {
-        uint64_t *into = !strcmp(argv[i], "--seed") ? &seed : !strcmp(argv[i], "--cases") ? &cases
-                         : !strcmp(argv[i], "--seconds") ? &seconds : !strcmp(argv[i], "--only") ? &only : NULL;
-        if (!into) {
-            fprintf(stderr, "usage: agree [--seed N] [--cases N] [--seconds N] [--only CASE], or agree --self-test\n");
-            return 2;
-        }
-        *into = number_of(argc, argv, i + 1);
-    }
-    uint64_t ran = 0, start = only == UINT64_MAX ? 0 : only, end = only == UINT64_MAX ? cases : only + 1;
-    time_t begun = time(NULL), shown = begun;
-    for (uint64_t k = start; seconds ? (uint64_t)(time(NULL) - begun) < seconds : k < end; k++, ran++) {
-        run(seed, k);
-        if (time(NULL) - shown >= 5) {
-            shown = time(NULL);
-            fprintf(stderr, "agree: %llu cases, %llu differences, %ld s\n", (unsigned long long)ran, (unsigned long long)differences,
-                    (long)(shown - begun));
-        }
-    }
+    const Options options = options_of("agree", 40000, argc, argv);
+    const uint64_t ran = walk("agree", "cases", options, &differences, run);
     printf("agree: %llu cases through both layouts, %llu bytes compared, %llu differences, seed %llu\n", (unsigned long long)ran,
-           (unsigned long long)compared, (unsigned long long)differences, (unsigned long long)seed);
+           (unsigned long long)compared, (unsigned long long)differences, (unsigned long long)options.seed);
     return differences != 0;
 }

@@ -19,10 +19,10 @@
 #include <string.h>
 #include <sys/mman.h>
 #include <sys/wait.h>
-#include <time.h>
 #include <unistd.h>
 
 #include "haythaw.h"
+#include "run.h"
 #include "wire_reader.h"
 #include "wire_payloads.h"
 
@@ -205,8 +205,9 @@ static bool kept(void)
     return same;
 }
 
-static void run(uint64_t which)
+static void run(uint64_t of, uint64_t which)
 {
+    seed = of;
     uint64_t before = differences;
     number = which;
     make(&payload, seed, number);
@@ -238,7 +239,7 @@ static void run(uint64_t which)
 static bool noticed(void)
 {
     differences = 0;
-    for (uint64_t k = 0; k < ROUND && !differences; k += 61) run(k);
+    for (uint64_t k = 0; k < ROUND && !differences; k += 61) run(1, k);
     return differences > 0;
 }
 
@@ -286,17 +287,6 @@ static void trapped(int by)
     _exit(write(1, said, (size_t)n) == n ? 1 : 2);
 }
 
-static uint64_t number_of(int argc, char **argv, int i)
-{
-    char *end = "";
-    uint64_t n = i < argc ? strtoull(argv[i], &end, 10) : 0;
-    if (i >= argc || *end || !*argv[i]) {
-        fprintf(stderr, "wire: %s wants a number\n", argv[i - 1]);
-        exit(2);
-    }
-    return n;
-}
-
 static int summary(void)
 {
     uint64_t ran = 0;
@@ -326,25 +316,7 @@ int main(int argc, char **argv)
     signal(SIGSEGV, trapped);
     signal(SIGBUS, trapped);
     if (argc == 2 && !strcmp(argv[1], "--self-test")) return self_test();
-    uint64_t cases = 1000000, seconds = 0, only = UINT64_MAX;
-    for (int i = 1; i < argc; i += 2) {
-        uint64_t *into = !strcmp(argv[i], "--seed") ? &seed : !strcmp(argv[i], "--cases") ? &cases
-                         : !strcmp(argv[i], "--seconds") ? &seconds : !strcmp(argv[i], "--only") ? &only : NULL;
-        if (!into) {
-            fprintf(stderr, "usage: wire [--seed N] [--cases N] [--seconds N] [--only CASE], or wire --self-test\n");
-            return 2;
-        }
-        *into = number_of(argc, argv, i + 1);
-    }
-    uint64_t ran = 0, start = only == UINT64_MAX ? 0 : only, end = only == UINT64_MAX ? cases : only + 1;
-    time_t begun = time(NULL), shown = begun;
-    for (uint64_t k = start; seconds ? (uint64_t)(time(NULL) - begun) < seconds : k < end; k++, ran++) {
-        run(k);
-        if (time(NULL) - shown >= 5) {
-            shown = time(NULL);
-            fprintf(stderr, "wire: %llu payloads, %llu differences, %ld s\n", (unsigned long long)ran, (unsigned long long)differences,
-                    (long)(shown - begun));
-        }
-    }
+    const Options options = options_of("wire", 1000000, argc, argv);
+    walk("wire", "payloads", options, &differences, run);
     return summary();
 }

@@ -13,6 +13,8 @@
 #include <stdint.h>
 #include <string.h>
 
+#include "run.h"
+
 enum family { PREFIXES, CHANGES, BOUNDARIES, LONG, ALTERED, RANDOM, FAMILIES };
 static const char *const family_names[FAMILIES] = {"prefixes", "changes of one byte", "boundaries", "long", "altered", "random"};
 
@@ -52,22 +54,6 @@ typedef struct {
     size_t length, second;
     uint8_t bytes[LONGEST]; /* of a long one, the two pieces */
 } Payload;
-
-/* Random numbers: splitmix64. */
-static uint64_t state;
-
-static uint64_t any(void)
-{
-    uint64_t z = (state += 0x9E3779B97F4A7C15u);
-    z = (z ^ z >> 30) * 0xBF58476D1CE4E5B9u;
-    z = (z ^ z >> 27) * 0x94D049BB133111EBu;
-    return z ^ z >> 31;
-}
-
-static uint32_t below(uint32_t n)
-{
-    return (uint32_t)(any() % n);
-}
 
 static void fill(uint8_t *at, size_t n)
 {
