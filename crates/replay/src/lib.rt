@@ -5,7 +5,8 @@
 ghost use mathlib.Core.Path.{_≡_};
 ghost use Prim.Native.Nat.{_+_, _≤_, _<_};
 ghost use lib.ListN.{length};
-ghost use Rattle.replay.specs.Fields.{twoOf, eightOf};
+ghost use Rattle.fields.specs.Fields.{u16At};
+ghost use Rattle.replay.specs.Fields.{eightOf};
 ghost use Rattle.replay.specs.Checksum.{checksumOf};
 
 fn wide(b: u8) -> usize
@@ -17,9 +18,9 @@ fn wide(b: u8) -> usize
 // The number in the two bytes at a place.
 pub fn two(s: &[u8], at: usize) -> usize
     requires { ⌜ at + 2 ≤ length (now s) ⌝ }
-    ensures { λ r. ⌜ (r ≡ twoOf (now (s .entry)) at) × (r < 65536) ⌝ }
+    ensures { λ r. ⌜ (r ≡ u16At (now (s .entry)) at) × (r < 65536) ⌝ }
 {
-    wide(s[at]) + 256 * wide(s[at + 1])
+    fields::u16_at(s, at) as usize
 }
 
 // The number in the eight bytes at a place.

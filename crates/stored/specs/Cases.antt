@@ -6,36 +6,36 @@
 --   caseOf s at    the case in the 44 bytes at a place
 use Prim.Native.Nat.{ℕ, _+_}
 use mathlib.Core.List.{List, [], _∷_}
-use Rattle.replay.specs.Fields.{twoOf}
+use Rattle.fields.specs.Fields.{u16At}
 use Rattle.picture.specs.declared.Size.{Size}
 use Rattle.view.specs.declared.View.{View}
 use Rattle.stored.specs.declared.Case.{Case}
 
 abbrev pub sizeOf : List ℕ → ℕ → Size
-sizeOf s at = record { width = twoOf s at; height = twoOf s (at + 2) }
+sizeOf s at = record { width = u16At s at; height = u16At s (at + 2) }
 
 abbrev pub viewOf : List ℕ → ℕ → View
 viewOf s at = record {
-  width = twoOf s at;
-  height = twoOf s (at + 2);
-  «luma_stride» = twoOf s (at + 4);
-  «chroma_stride» = twoOf s (at + 6);
+  width = u16At s at;
+  height = u16At s (at + 2);
+  «luma_stride» = u16At s (at + 4);
+  «chroma_stride» = u16At s (at + 6);
 }
 
 abbrev pub rectsOf : List ℕ → ℕ → List ℕ
 rectsOf s at =
-    twoOf s at ∷ twoOf s (at + 2) ∷ twoOf s (at + 4) ∷ twoOf s (at + 6)
-    ∷ twoOf s (at + 8) ∷ twoOf s (at + 10) ∷ twoOf s (at + 12) ∷ twoOf s (at + 14)
-    ∷ twoOf s (at + 16) ∷ twoOf s (at + 18) ∷ twoOf s (at + 20) ∷ twoOf s (at + 22)
+    u16At s at ∷ u16At s (at + 2) ∷ u16At s (at + 4) ∷ u16At s (at + 6)
+    ∷ u16At s (at + 8) ∷ u16At s (at + 10) ∷ u16At s (at + 12) ∷ u16At s (at + 14)
+    ∷ u16At s (at + 16) ∷ u16At s (at + 18) ∷ u16At s (at + 20) ∷ u16At s (at + 22)
     ∷ []
 
 abbrev pub caseOf : List ℕ → ℕ → Case
 caseOf s at = record {
-  which = twoOf s at;
+  which = u16At s at;
   size = sizeOf s (at + 2);
-  source = twoOf s (at + 6);
+  source = u16At s (at + 6);
   view = viewOf s (at + 8);
-  «view_source» = twoOf s (at + 16);
-  count = twoOf s (at + 18);
+  «view_source» = u16At s (at + 16);
+  count = u16At s (at + 18);
   rects = rectsOf s (at + 20);
 }

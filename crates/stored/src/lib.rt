@@ -6,7 +6,6 @@
 ghost use mathlib.Core.Path.{_≡_};
 ghost use Prim.Native.Nat.{_+_, _≤_};
 ghost use lib.ListN.{length};
-ghost use Rattle.replay.specs.Fields.{twoOf};
 ghost use Rattle.stored.specs.Cases.{sizeOf, viewOf, rectsOf, caseOf};
 use picture::Size;
 use view::View;
@@ -21,20 +20,13 @@ pub struct Case {
     pub rects: [u16; 12],
 }
 
-fn field(s: &[u8], at: usize) -> u16
-    requires { ⌜ at + 2 ≤ length (now s) ⌝ }
-    ensures { λ r. ⌜ r ≡ twoOf (now (s .entry)) at ⌝ }
-{
-    replay::two(s, at) as u16
-}
-
 fn size_at(s: &[u8], at: usize) -> Size
     requires { ⌜ at + 4 ≤ length (now s) ⌝ }
     ensures { λ r. ⌜ r ≡ sizeOf (now (s .entry)) at ⌝ }
 {
     Size {
-        width: field(s, at),
-        height: field(s, at + 2),
+        width: fields::u16_at(s, at),
+        height: fields::u16_at(s, at + 2),
     }
 }
 
@@ -43,8 +35,8 @@ fn view_at(s: &[u8], at: usize) -> View
     ensures { λ r. ⌜ r ≡ viewOf (now (s .entry)) at ⌝ }
 {
     View {
-        width: field(s, at),
-        height: field(s, at + 2),
+        width: fields::u16_at(s, at),
+        height: fields::u16_at(s, at + 2),
         luma_stride: replay::two(s, at + 4),
         chroma_stride: replay::two(s, at + 6),
     }
@@ -56,18 +48,18 @@ fn rects_at(s: &[u8], at: usize) -> [u16; 12]
     ensures { λ r. ⌜ r ≡ rectsOf (now (s .entry)) at ⌝ }
 {
     [
-        field(s, at),
-        field(s, at + 2),
-        field(s, at + 4),
-        field(s, at + 6),
-        field(s, at + 8),
-        field(s, at + 10),
-        field(s, at + 12),
-        field(s, at + 14),
-        field(s, at + 16),
-        field(s, at + 18),
-        field(s, at + 20),
-        field(s, at + 22),
+        fields::u16_at(s, at),
+        fields::u16_at(s, at + 2),
+        fields::u16_at(s, at + 4),
+        fields::u16_at(s, at + 6),
+        fields::u16_at(s, at + 8),
+        fields::u16_at(s, at + 10),
+        fields::u16_at(s, at + 12),
+        fields::u16_at(s, at + 14),
+        fields::u16_at(s, at + 16),
+        fields::u16_at(s, at + 18),
+        fields::u16_at(s, at + 20),
+        fields::u16_at(s, at + 22),
     ]
 }
 
@@ -77,12 +69,12 @@ pub fn case_at(s: &[u8], at: usize) -> Case
     ensures { λ r. ⌜ r ≡ caseOf (now (s .entry)) at ⌝ }
 {
     Case {
-        which: field(s, at),
+        which: fields::u16_at(s, at),
         size: size_at(s, at + 2),
-        source: field(s, at + 6),
+        source: fields::u16_at(s, at + 6),
         view: view_at(s, at + 8),
-        view_source: field(s, at + 16),
-        count: field(s, at + 18),
+        view_source: fields::u16_at(s, at + 16),
+        count: fields::u16_at(s, at + 18),
         rects: rects_at(s, at + 20),
     }
 }
