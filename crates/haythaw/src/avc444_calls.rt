@@ -2,7 +2,7 @@
 ghost use mathlib.Core.List.{[], _∷_};
 ghost use Rattle.lent.specs.Outcome.{Outcome};
 ghost use Rattle.wire.specs.Reading.{readOf};
-ghost use Rattle.wire_parts.specs.Parts.{CopyOutcome, rectangleOf, pairOf};
+ghost use Rattle.wire_parts.specs.Parts.{CopyOutcome, rectangleAtOf, pairAtOf};
 ghost use Rattle.wire_parts.specs.declared.Which.the-variants.{Luma, Chroma};
 use wire_parts::Which;
 
@@ -17,7 +17,7 @@ pub extern "C" fn haythaw_avc444_read(payload: &[u8]) -> wire::Avc444
 // Rectangle i of the luma stream. 0, 9, 8 or 10.
 #[no_mangle]
 pub extern "C" fn haythaw_avc444_luma_rectangle(payload: &[u8], i: usize) -> wire_parts::Rectangle
-    ensures { λ r. ⌜ Outcome (rectangleOf (now (payload .entry)) Luma i) [] r [] ⌝ }
+    ensures { λ r. ⌜ Outcome (rectangleAtOf (now (payload .entry)) Luma i) [] r [] ⌝ }
 {
     wire_parts::rectangle_at(payload, Which::Luma, i)
 }
@@ -25,7 +25,7 @@ pub extern "C" fn haythaw_avc444_luma_rectangle(payload: &[u8], i: usize) -> wir
 // Rectangle i of the chroma stream. 0, 9, 8 or 10.
 #[no_mangle]
 pub extern "C" fn haythaw_avc444_chroma_rectangle(payload: &[u8], i: usize) -> wire_parts::Rectangle
-    ensures { λ r. ⌜ Outcome (rectangleOf (now (payload .entry)) Chroma i) [] r [] ⌝ }
+    ensures { λ r. ⌜ Outcome (rectangleAtOf (now (payload .entry)) Chroma i) [] r [] ⌝ }
 {
     wire_parts::rectangle_at(payload, Which::Chroma, i)
 }
@@ -33,7 +33,7 @@ pub extern "C" fn haythaw_avc444_chroma_rectangle(payload: &[u8], i: usize) -> w
 // Pair i of the luma stream. 0, 9, 8 or 10.
 #[no_mangle]
 pub extern "C" fn haythaw_avc444_luma_pair(payload: &[u8], i: usize) -> wire_parts::Pair
-    ensures { λ r. ⌜ Outcome (pairOf (now (payload .entry)) Luma i) [] r [] ⌝ }
+    ensures { λ r. ⌜ Outcome (pairAtOf (now (payload .entry)) Luma i) [] r [] ⌝ }
 {
     wire_parts::pair_at(payload, Which::Luma, i)
 }
@@ -41,7 +41,7 @@ pub extern "C" fn haythaw_avc444_luma_pair(payload: &[u8], i: usize) -> wire_par
 // Pair i of the chroma stream. 0, 9, 8 or 10.
 #[no_mangle]
 pub extern "C" fn haythaw_avc444_chroma_pair(payload: &[u8], i: usize) -> wire_parts::Pair
-    ensures { λ r. ⌜ Outcome (pairOf (now (payload .entry)) Chroma i) [] r [] ⌝ }
+    ensures { λ r. ⌜ Outcome (pairAtOf (now (payload .entry)) Chroma i) [] r [] ⌝ }
 {
     wire_parts::pair_at(payload, Which::Chroma, i)
 }

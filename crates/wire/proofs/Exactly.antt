@@ -18,7 +18,7 @@ use Rattle.lent.specs.Outcome.{Outcome}
 use Rattle.lent.proofs.Refusal.{refusal-exactly, refusal-none}
 use Rattle.fields.specs.Fields.{u32At}
 use Rattle.wire.specs.declared.Avc444.{Avc444}
-use Rattle.wire.specs.Reading.{kindOf, sizeOf, carriesLuma, carriesChroma, lumaEnd, chromaStart, streamIn, noStream, pastEnd, headTests, streamsPast, readNumberOf, refusedWith, carriedOf, readOf, Inside}
+use Rattle.wire.specs.Reading.{kindOf, firstSizeOf, carriesLuma, carriesChroma, lumaEnd, chromaStart, streamIn, noStream, pastEnd, headTests, streamsPast, readNumberOf, refusedWith, carriedOf, readOf, PartsInside}
 use Rattle.wire.proofs.Reading.{Good, pastEnd-is, read-accepted, follows-in}
 
 -- the one way in which the call ends
@@ -58,7 +58,7 @@ module _ (s : List ℕ) where
   pub read-8-exactly : (readNumberOf s ≡ 8) ↔ ((4 ≤ length s) × (kindOf s ≡ 3))
   unfolding readNumberOf
   read-8-exactly =
-      Iff·trans (refusal-exactly (eqb (kindOf s) 3) 8 ((ltb (length s) (4 + sizeOf s), 9) ∷ (streamsPast s, 10) ∷ []) tt (λ e. omega arith) ((ltb (length s) 4, 9) ∷ []) tt)
+      Iff·trans (refusal-exactly (eqb (kindOf s) 3) 8 ((ltb (length s) (4 + firstSizeOf s), 9) ∷ (streamsPast s, 10) ∷ []) tt (λ e. omega arith) ((ltb (length s) 4, 9) ∷ []) tt)
       (λ h. (ltb-false _ _ (h .0 .0), eqb-true _ _ (h .1)), λ h. ((le-ltb _ _ (h .0), tt), eq-eqb _ _ (h .1)))
 
   pub read-10-exactly : (readNumberOf s ≡ 10) ↔ (Good s × (streamsPast s ≡ true))
@@ -69,16 +69,16 @@ module _ (s : List ℕ) where
         λ h. ((le-ltb _ _ (h .0 .four), (ne-eqb _ _ (h .0 .known), (le-ltb _ _ (h .0 .room), tt))), h .1),
       )
 
-  pub read-9-exactly : (readNumberOf s ≡ 9) ↔ ((length s < 4) ⊎ ((4 ≤ length s) × (kindOf s ≡ 3 → ⊥) × (length s < 4 + sizeOf s)))
+  pub read-9-exactly : (readNumberOf s ≡ 9) ↔ ((length s < 4) ⊎ ((4 ≤ length s) × (kindOf s ≡ 3 → ⊥) × (length s < 4 + firstSizeOf s)))
   unfolding readNumberOf
   read-9-exactly = (
-    only-if (ltb (length s) 4) (eqb (kindOf s) 3) (ltb (length s) (4 + sizeOf s)) (streamsPast s) refl refl refl,
+    only-if (ltb (length s) 4) (eqb (kindOf s) 3) (ltb (length s) (4 + firstSizeOf s)) (streamsPast s) refl refl refl,
     ⊎-elim (λ h. simp (lt-ltb (length s) 4 h) refl)
-        (λ h. simp (le-ltb (length s) 4 (h .0), ne-eqb (kindOf s) 3 (h .1), lt-ltb (length s) (4 + sizeOf s) (h .2)) refl),
+        (λ h. simp (le-ltb (length s) 4 (h .0), ne-eqb (kindOf s) 3 (h .1), lt-ltb (length s) (4 + firstSizeOf s) (h .2)) refl),
   )
     where
-      only-if : (a b c d : Bool) → ltb (length s) 4 ≡ a → eqb (kindOf s) 3 ≡ b → ltb (length s) (4 + sizeOf s) ≡ c → refusal ((a, 9) ∷ (b, 8) ∷ (c, 9) ∷ (d, 10) ∷ []) ≡ 9
-          → (length s < 4) ⊎ ((4 ≤ length s) × (kindOf s ≡ 3 → ⊥) × (length s < 4 + sizeOf s))
+      only-if : (a b c d : Bool) → ltb (length s) 4 ≡ a → eqb (kindOf s) 3 ≡ b → ltb (length s) (4 + firstSizeOf s) ≡ c → refusal ((a, 9) ∷ (b, 8) ∷ (c, 9) ∷ (d, 10) ∷ []) ≡ 9
+          → (length s < 4) ⊎ ((4 ≤ length s) × (kindOf s ≡ 3 → ⊥) × (length s < 4 + firstSizeOf s))
       only-if true b c d x y z e = inl (ltb-true _ _ x)
       only-if false true c d x y z e = absurd (omega arith)
       only-if false false true d x y z e = inr (ltb-false _ _ x, eqb-false _ _ y, ltb-true _ _ z)
@@ -87,24 +87,24 @@ module _ (s : List ℕ) where
 
 -- ---- the parts lie in the payload, in order and without overlap
 
-none-inside : (n : ℕ) → Inside noStream n
+none-inside : (n : ℕ) → PartsInside noStream n
 none-inside n = record { pairs-follow = refl; data-follow = refl; ends = omega arith }
 
-stream-inside : (s : List ℕ) (a e : ℕ) → pastEnd s a e ≡ false → e ≤ length s → Inside (streamIn s a e) (length s)
+stream-inside : (s : List ℕ) (a e : ℕ) → pastEnd s a e ≡ false → e ≤ length s → PartsInside (streamIn s a e) (length s)
 stream-inside s a e p h =
     let k = ltb-false e (a + 4 + 10 * u32At s a) (sym (pastEnd-is s a e) ∙ p) in
     record { pairs-follow = refl; data-follow = omega arith; ends = omega arith }
 
-pub read-inside : (s : List ℕ) → Inside (readOf s .luma) (length s) × Inside (readOf s .chroma) (length s)
+pub read-inside : (s : List ℕ) → PartsInside (readOf s .luma) (length s) × PartsInside (readOf s .chroma) (length s)
 unfolding readOf
 read-inside s = go (eqb (readNumberOf s) 0) refl
   where
-    carried : (is : Bool) (a e : ℕ) → (is && pastEnd s a e) ≡ false → e ≤ length s → Inside (cond is (streamIn s a e) noStream) (length s)
+    carried : (is : Bool) (a e : ℕ) → (is && pastEnd s a e) ≡ false → e ≤ length s → PartsInside (cond is (streamIn s a e) noStream) (length s)
     carried true a e p h = stream-inside s a e p h
     carried false a e p h = none-inside (length s)
 
     go : (b : Bool) → eqb (readNumberOf s) 0 ≡ b
-        → Inside (cond b (carriedOf s) (refusedWith (readNumberOf s)) .luma) (length s) × Inside (cond b (carriedOf s) (refusedWith (readNumberOf s)) .chroma) (length s)
+        → PartsInside (cond b (carriedOf s) (refusedWith (readNumberOf s)) .luma) (length s) × PartsInside (cond b (carriedOf s) (refusedWith (readNumberOf s)) .chroma) (length s)
     go true e =
         let r = read-accepted s (eqb-true (readNumberOf s) 0 e) in
         let n = nor (carriesLuma (kindOf s) && pastEnd s 4 (lumaEnd s)) (carriesChroma (kindOf s) && pastEnd s (chromaStart s) (length s)) .0 (r .1) in (

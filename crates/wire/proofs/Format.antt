@@ -14,7 +14,7 @@ use Rattle.fields.specs.Fields.{u32At, kindIn, sizeIn}
 use Rattle.fields.proofs.Fields.{u32-front, u32-behind}
 use Rattle.wire.specs.declared.Stream.{Stream}
 use Rattle.wire.specs.declared.Avc444.{Avc444}
-use Rattle.wire.specs.Reading.{kindOf, sizeOf, carriesLuma, carriesChroma, follows, streamIn, noStream, pastEnd, readNumberOf, readOf}
+use Rattle.wire.specs.Reading.{kindOf, firstSizeOf, carriesLuma, carriesChroma, follows, streamIn, noStream, pastEnd, readNumberOf, readOf}
 use Rattle.wire.specs.Format.{Parts, bytesOf, Sound, placesAt, Payload}
 use Rattle.wire.specs.Format.Payload.{both, luma, chroma}
 use Rattle.wire.proofs.Reading.{Good, head-good, pastEnd-is, read-accepted, read-carried}
@@ -23,23 +23,23 @@ use Rattle.wire.proofs.Reading.{Good, head-good, pastEnd-is, read-accep
 
 module _ (s : List ℕ) where
   abbrev pastAt : ℕ → Bool
-  pastAt k = (carriesLuma k && pastEnd s 4 (follows k (sizeOf s) (length s))) || (carriesChroma k && pastEnd s (follows k (sizeOf s) 4) (length s))
+  pastAt k = (carriesLuma k && pastEnd s 4 (follows k (firstSizeOf s) (length s))) || (carriesChroma k && pastEnd s (follows k (firstSizeOf s) 4) (length s))
 
   abbrev answerAt : ℕ → Avc444
   answerAt k = record {
     number = 0;
     kind = k;
-    luma = cond (carriesLuma k) (streamIn s 4 (follows k (sizeOf s) (length s))) noStream;
-    chroma = cond (carriesChroma k) (streamIn s (follows k (sizeOf s) 4) (length s)) noStream;
+    luma = cond (carriesLuma k) (streamIn s 4 (follows k (firstSizeOf s) (length s))) noStream;
+    chroma = cond (carriesChroma k) (streamIn s (follows k (firstSizeOf s) 4) (length s)) noStream;
   }
 
   -- in kind k, where no stream of that kind runs past its end
   read-at : Good s → (k : ℕ) → kindOf s ≡ k → pastAt k ≡ false → readOf s ≡ answerAt k
   read-at g k is p = sym (read-carried s (sym (head-good s (g .four) (g .known) (g .room))) (ap pastAt is ∙ p)) ∙ ap answerAt is
 
-  pub read-both : Good s → kindOf s ≡ 0 → pastEnd s 4 (4 + sizeOf s) ≡ false → pastEnd s (4 + sizeOf s) (length s) ≡ false
-      → readOf s ≡ record { number = 0; kind = 0; luma = streamIn s 4 (4 + sizeOf s); chroma = streamIn s (4 + sizeOf s) (length s) }
-  read-both g k p q = read-at g 0 k (nor (pastEnd s 4 (4 + sizeOf s)) (pastEnd s (4 + sizeOf s) (length s)) .1 (p, q))
+  pub read-both : Good s → kindOf s ≡ 0 → pastEnd s 4 (4 + firstSizeOf s) ≡ false → pastEnd s (4 + firstSizeOf s) (length s) ≡ false
+      → readOf s ≡ record { number = 0; kind = 0; luma = streamIn s 4 (4 + firstSizeOf s); chroma = streamIn s (4 + firstSizeOf s) (length s) }
+  read-both g k p q = read-at g 0 k (nor (pastEnd s 4 (4 + firstSizeOf s)) (pastEnd s (4 + firstSizeOf s) (length s)) .1 (p, q))
 
   pub read-luma : Good s → kindOf s ≡ 1 → pastEnd s 4 (length s) ≡ false → readOf s ≡ record { number = 0; kind = 1; luma = streamIn s 4 (length s); chroma = noStream }
   read-luma g k p = read-at g 1 k (nor (pastEnd s 4 (length s)) false .1 (p, refl))
@@ -75,14 +75,14 @@ module _ (h t : List ℕ) (four : length h ≡ 4) where
   pub kind-is : kindOf (h ++ t) ≡ kindOf h
   kind-is = ap kindIn (u32-front h t (omega arith))
 
-  size-is : sizeOf (h ++ t) ≡ sizeOf h
+  size-is : firstSizeOf (h ++ t) ≡ firstSizeOf h
   size-is = ap sizeIn (u32-front h t (omega arith))
 
   -- and its streams
   first-is : (p : Parts) (rest : List ℕ) → Sound p → t ≡ p .count ++ rest → u32At (h ++ t) 4 ≡ u32At (p .count) 0
   first-is p rest f e = u32-behind h t 4 four ∙ ap (λ (x : List ℕ). u32At x 0) e ∙ u32-front (p .count) rest (omega (arith, f))
 
-  sound : (k : ℕ) → kindOf h ≡ k → k < 3 → sizeOf h ≤ length t → Good (h ++ t)
+  sound : (k : ℕ) → kindOf h ≡ k → k < 3 → firstSizeOf h ≤ length t → Good (h ++ t)
   sound k is below fits =
       let l = length-append h t in
       let s = size-is in
@@ -97,20 +97,20 @@ format-read s a (both h l c four k z f g) =
     let u = length-append h t in
     let v = length-append (bytesOf l) (bytesOf c) in
     let w = length-append h (bytesOf l) in
-    let middle : 4 + sizeOf s ≡ 4 + length (bytesOf l) = omega arith in
-    let end : length s ≡ 4 + sizeOf s + length (bytesOf c) = omega arith in
+    let middle : 4 + firstSizeOf s ≡ 4 + length (bytesOf l) = omega arith in
+    let end : length s ≡ 4 + firstSizeOf s + length (bytesOf c) = omega arith in
     let one = first-is h t four l _ f (append-assoc (l .count) (l .rects ++ (l .pairs ++ l .h264)) (bytesOf c)) in
-    let two : u32At s (4 + sizeOf s) ≡ u32At (c .count) 0 =
-    ap (λ (x : List ℕ). u32At x (4 + sizeOf s)) (sym (append-assoc h (bytesOf l) (bytesOf c)))
-    ∙ u32-behind (h ++ bytesOf l) (bytesOf c) (4 + sizeOf s) (omega arith)
+    let two : u32At s (4 + firstSizeOf s) ≡ u32At (c .count) 0 =
+    ap (λ (x : List ℕ). u32At x (4 + firstSizeOf s)) (sym (append-assoc h (bytesOf l) (bytesOf c)))
+    ∙ u32-behind (h ++ bytesOf l) (bytesOf c) (4 + firstSizeOf s) (omega arith)
     ∙ u32-front (c .count) _ (omega (arith, g)) in
     read-both s (sound h t four 0 k (omega arith) (omega arith)) (kind-is h t four ∙ k)
-    (not-past s 4 (4 + sizeOf s) l f one middle) (not-past s (4 + sizeOf s) (length s) c g two end)
+    (not-past s 4 (4 + firstSizeOf s) l f one middle) (not-past s (4 + firstSizeOf s) (length s) c g two end)
     ∙ (λ i. record {
       number = 0;
       kind = 0;
-      luma = places s 4 (4 + sizeOf s) l f one middle i;
-      chroma = (places s (4 + sizeOf s) (length s) c g two end ∙ ap (λ (x : ℕ). placesAt x c) middle) i;
+      luma = places s 4 (4 + firstSizeOf s) l f one middle i;
+      chroma = (places s (4 + firstSizeOf s) (length s) c g two end ∙ ap (λ (x : ℕ). placesAt x c) middle) i;
     })
 format-read s a (luma h l four k z f) =
     let s = h ++ bytesOf l in
@@ -192,7 +192,7 @@ module _ (s : List ℕ) (g : Good s) where
   one : (p : pastEnd s 4 (length s) ≡ false) → take 4 s ++ bytesOf (cut s 4 (length s)) ≡ s
   one p = ap (λ (x : List ℕ). take 4 s ++ x) (to-end 4 (g .four) (in-it 4 (length s) p)) ∙ take-append-drop 4 s
 
-  one-fits : (p : pastEnd s 4 (length s) ≡ false) → sizeOf (take 4 s) ≤ length (bytesOf (cut s 4 (length s)))
+  one-fits : (p : pastEnd s 4 (length s) ≡ false) → firstSizeOf (take 4 s) ≤ length (bytesOf (cut s 4 (length s)))
   one-fits p =
       let b = ap length (to-end 4 (g .four) (in-it 4 (length s) p)) in
       let l = length-drop 4 s in
@@ -200,19 +200,19 @@ module _ (s : List ℕ) (g : Good s) where
       omega (arith, g)
 
   -- in kind 0 the header and both are
-  middle : (p : pastEnd s 4 (4 + sizeOf s) ≡ false) → length (bytesOf (cut s 4 (4 + sizeOf s))) ≡ sizeOf s
+  middle : (p : pastEnd s 4 (4 + firstSizeOf s) ≡ false) → length (bytesOf (cut s 4 (4 + firstSizeOf s))) ≡ firstSizeOf s
   middle p =
-      ap length (cut-bytes s 4 (4 + sizeOf s) (in-it 4 (4 + sizeOf s) p) (g .room))
-      ∙ length-take-le (4 + sizeOf s - 4) (drop 4 s) (let l = length-drop 4 s in omega (arith, g))
+      ap length (cut-bytes s 4 (4 + firstSizeOf s) (in-it 4 (4 + firstSizeOf s) p) (g .room))
+      ∙ length-take-le (4 + firstSizeOf s - 4) (drop 4 s) (let l = length-drop 4 s in omega (arith, g))
       ∙ omega arith
 
-  two : (p : pastEnd s 4 (4 + sizeOf s) ≡ false) → pastEnd s (4 + sizeOf s) (length s) ≡ false
-      → take 4 s ++ (bytesOf (cut s 4 (4 + sizeOf s)) ++ bytesOf (cut s (4 + sizeOf s) (length s))) ≡ s
+  two : (p : pastEnd s 4 (4 + firstSizeOf s) ≡ false) → pastEnd s (4 + firstSizeOf s) (length s) ≡ false
+      → take 4 s ++ (bytesOf (cut s 4 (4 + firstSizeOf s)) ++ bytesOf (cut s (4 + firstSizeOf s) (length s))) ≡ s
   two p q =
-      let size : 4 + sizeOf s - 4 ≡ sizeOf s = omega arith in
-      let first = cut-bytes s 4 (4 + sizeOf s) (in-it 4 (4 + sizeOf s) p) (g .room) ∙ ap (λ (k : ℕ). take k (drop 4 s)) size in
-      let second = to-end (4 + sizeOf s) (g .room) (in-it (4 + sizeOf s) (length s) q) ∙ sym (drop-drop (sizeOf s) 4 s) in
-      (λ i. take 4 s ++ (first i ++ second i)) ∙ ap (λ (x : List ℕ). take 4 s ++ x) (take-append-drop (sizeOf s) (drop 4 s)) ∙ take-append-drop 4 s
+      let size : 4 + firstSizeOf s - 4 ≡ firstSizeOf s = omega arith in
+      let first = cut-bytes s 4 (4 + firstSizeOf s) (in-it 4 (4 + firstSizeOf s) p) (g .room) ∙ ap (λ (k : ℕ). take k (drop 4 s)) size in
+      let second = to-end (4 + firstSizeOf s) (g .room) (in-it (4 + firstSizeOf s) (length s) q) ∙ sym (drop-drop (firstSizeOf s) 4 s) in
+      (λ i. take 4 s ++ (first i ++ second i)) ∙ ap (λ (x : List ℕ). take 4 s ++ x) (take-append-drop (firstSizeOf s) (drop 4 s)) ∙ take-append-drop 4 s
 
 pub read-format : (s : List ℕ) → u32At s 0 < 2 ^ 32 → readNumberOf s ≡ 0 → Payload s (readOf s)
 read-format s small zero-number = go (kindOf s) refl (omega (arith, g .known))
@@ -228,19 +228,19 @@ read-format s small zero-number = go (kindOf s) refl (omega (arith, g .known))
 
     go : (k : ℕ) → kindOf s ≡ k → k < 3 → Payload s (readOf s)
     go zero is h =
-        let n = nor (pastEnd s 4 (4 + sizeOf s)) (pastEnd s (4 + sizeOf s) (length s)) .0 (none 0 is) in
-        let l = cut-sound s 4 (4 + sizeOf s) (in-it s g 4 (4 + sizeOf s) (n .0)) (g .room) in
-        let c = cut-sound s (4 + sizeOf s) (length s) (in-it s g (4 + sizeOf s) (length s) (n .1)) (le-refl (length s)) in
+        let n = nor (pastEnd s 4 (4 + firstSizeOf s)) (pastEnd s (4 + firstSizeOf s) (length s)) .0 (none 0 is) in
+        let l = cut-sound s 4 (4 + firstSizeOf s) (in-it s g 4 (4 + firstSizeOf s) (n .0)) (g .room) in
+        let c = cut-sound s (4 + firstSizeOf s) (length s) (in-it s g (4 + firstSizeOf s) (length s) (n .1)) (le-refl (length s)) in
         let m = middle s g (n .0) in
         put (two s g (n .0) (n .1))
         ((λ i. record {
           number = 0;
           kind = 0;
-          luma = cut-places s 4 (4 + sizeOf s) (in-it s g 4 (4 + sizeOf s) (n .0)) (g .room) i;
-          chroma = (ap (λ (x : ℕ). placesAt (4 + x) (cut s (4 + sizeOf s) (length s))) m ∙ cut-places s (4 + sizeOf s) (length s) (in-it s g (4 + sizeOf s) (length s) (n .1)) (le-refl (length s))) i;
+          luma = cut-places s 4 (4 + firstSizeOf s) (in-it s g 4 (4 + firstSizeOf s) (n .0)) (g .room) i;
+          chroma = (ap (λ (x : ℕ). placesAt (4 + x) (cut s (4 + firstSizeOf s) (length s))) m ∙ cut-places s (4 + firstSizeOf s) (length s) (in-it s g (4 + firstSizeOf s) (length s) (n .1)) (le-refl (length s))) i;
         })
         ∙ sym (read-both s g is (n .0) (n .1)))
-        (both (take 4 s) (cut s 4 (4 + sizeOf s)) (cut s (4 + sizeOf s) (length s)) (head s g) (ap kindIn (head-first s g) ∙ is) (ap sizeIn (head-first s g) ∙ sym m) l c)
+        (both (take 4 s) (cut s 4 (4 + firstSizeOf s)) (cut s (4 + firstSizeOf s) (length s)) (head s g) (ap kindIn (head-first s g) ∙ is) (ap sizeIn (head-first s g) ∙ sym m) l c)
     go (suc zero) is h =
         let p = nor (pastEnd s 4 (length s)) false .0 (none 1 is) .0 in
         put (one s g p)

@@ -16,7 +16,7 @@ use Rattle.fields.specs.Fields.{u32At}
 use Rattle.wire.specs.declared.Stream.{Stream}
 use Rattle.wire.specs.declared.Found.{Found}
 use Rattle.wire.specs.declared.Found.the-variants.{Whole, Past}
-use Rattle.wire.specs.Reading.{kindOf, sizeOf, carriesLuma, carriesChroma, follows, lumaEnd, chromaStart, streamIn, noStream, pastEnd, Values, whole, past, foundOf, streamAt, carriedAt, headTests, headNumberOf, streamsPast, readNumberOf, refusedWith, carriedOf, readOf}
+use Rattle.wire.specs.Reading.{kindOf, firstSizeOf, carriesLuma, carriesChroma, follows, lumaEnd, chromaStart, streamIn, noStream, pastEnd, FoundValues, wholeStream, pastStream, foundOf, streamAt, carriedAt, headTests, headNumberOf, streamsPast, readNumberOf, refusedWith, carriedOf, readOf}
 
 -- ---- a stream
 
@@ -30,27 +30,27 @@ pastEnd-is s a e = same (ltb e (a + 4)) _ (λ h. lt-ltb e (a + 4 + 10 * u32At s 
     same false q f = refl
 
 module _ (s : List ℕ) (a e : ℕ) where
-  pub stream-past : e < a + 4 + 10 * u32At s a → past ≡ streamAt s a e
+  pub stream-past : e < a + 4 + 10 * u32At s a → pastStream ≡ streamAt s a e
   stream-past h = sym (cond-true (pastEnd s a e) _ _ (pastEnd-is s a e ∙ lt-ltb e _ h))
 
-  pub stream-whole : a + 4 + 10 * u32At s a ≤ e → whole (streamIn s a e) ≡ streamAt s a e
+  pub stream-whole : a + 4 + 10 * u32At s a ≤ e → wholeStream (streamIn s a e) ≡ streamAt s a e
   stream-whole h = sym (cond-false (pastEnd s a e) _ _ (pastEnd-is s a e ∙ le-ltb e _ h))
 
   -- as the code adds it up
   pub stream-is : (n : ℕ) → n ≡ u32At s a → a + 4 + 10 * n ≤ e
-      → whole (record { count = n; rects = a + 4; pairs = a + 4 + 8 * n; «data» = a + 4 + 8 * n + 2 * n; length = e - (a + 4 + 8 * n + 2 * n) }) ≡ streamAt s a e
+      → wholeStream (record { count = n; rects = a + 4; pairs = a + 4 + 8 * n; «data» = a + 4 + 8 * n + 2 * n; length = e - (a + 4 + 8 * n + 2 * n) }) ≡ streamAt s a e
   stream-is n is h =
       let tens : a + 4 + 8 * n + 2 * n ≡ a + 4 + 10 * n = omega arith in
-      (λ i. whole (record { count = n; rects = a + 4; pairs = a + 4 + 8 * n; «data» = tens i; length = e - tens i }))
-      ∙ (λ i. whole (record { count = is i; rects = a + 4; pairs = a + 4 + 8 * is i; «data» = a + 4 + 10 * is i; length = e - (a + 4 + 10 * is i) }))
+      (λ i. wholeStream (record { count = n; rects = a + 4; pairs = a + 4 + 8 * n; «data» = tens i; length = e - tens i }))
+      ∙ (λ i. wholeStream (record { count = is i; rects = a + 4; pairs = a + 4 + 8 * is i; «data» = a + 4 + 10 * is i; length = e - (a + 4 + 10 * is i) }))
       ∙ stream-whole (omega arith)
 
 -- what a stream looked for says
 module _ (is : Bool) (s : List ℕ) (a e : ℕ) {r : Found} (says : foundOf r ≡ carriedAt is s a e) where
   pub found-past : r ≡ Past → (is && pastEnd s a e) ≡ true
-  found-past p = go is (pastEnd s a e) (ap (λ (v : Values). v .number) (sym (ap foundOf p) ∙ says))
+  found-past p = go is (pastEnd s a e) (ap (λ (v : FoundValues). v .number) (sym (ap foundOf p) ∙ says))
     where
-      go : (b t : Bool) → 10 ≡ cond b (cond t past (whole (streamIn s a e))) (whole noStream) .number → (b && t) ≡ true
+      go : (b t : Bool) → 10 ≡ cond b (cond t pastStream (wholeStream (streamIn s a e))) (wholeStream noStream) .number → (b && t) ≡ true
       go true true q = refl
       go true false q = absurd (omega arith)
       go false t q = absurd (omega arith)
@@ -58,10 +58,10 @@ module _ (is : Bool) (s : List ℕ) (a e : ℕ) {r : Found} (says : foundOf r �
   pub found-whole : {x : Stream} → r ≡ Whole x → ((is && pastEnd s a e) ≡ false) × (x ≡ cond is (streamIn s a e) noStream)
   found-whole {x} p = go is (pastEnd s a e) (sym (ap foundOf p) ∙ says)
     where
-      go : (b t : Bool) → whole x ≡ cond b (cond t past (whole (streamIn s a e))) (whole noStream) → ((b && t) ≡ false) × (x ≡ cond b (streamIn s a e) noStream)
-      go true true q = let n = ap (λ (v : Values). v .number) q in absurd (omega arith)
-      go true false q = (refl, ap (λ (v : Values). v .stream) q)
-      go false t q = (refl, ap (λ (v : Values). v .stream) q)
+      go : (b t : Bool) → wholeStream x ≡ cond b (cond t pastStream (wholeStream (streamIn s a e))) (wholeStream noStream) → ((b && t) ≡ false) × (x ≡ cond b (streamIn s a e) noStream)
+      go true true q = let n = ap (λ (v : FoundValues). v .number) q in absurd (omega arith)
+      go true false q = (refl, ap (λ (v : FoundValues). v .stream) q)
+      go false t q = (refl, ap (λ (v : FoundValues). v .stream) q)
 
 -- ---- the first number
 
@@ -74,18 +74,18 @@ module _ (s : List ℕ) where
   unfolding headNumberOf
   head-kind h k = simp (le-ltb (length s) 4 h, eq-eqb (kindOf s) 3 k) refl
 
-  pub head-past : 4 ≤ length s → (kindOf s ≡ 3 → ⊥) → length s < 4 + sizeOf s → 9 ≡ headNumberOf s
+  pub head-past : 4 ≤ length s → (kindOf s ≡ 3 → ⊥) → length s < 4 + firstSizeOf s → 9 ≡ headNumberOf s
   unfolding headNumberOf
-  head-past h k p = simp (le-ltb (length s) 4 h, ne-eqb (kindOf s) 3 k, lt-ltb (length s) (4 + sizeOf s) p) refl
+  head-past h k p = simp (le-ltb (length s) 4 h, ne-eqb (kindOf s) 3 k, lt-ltb (length s) (4 + firstSizeOf s) p) refl
 
-  pub head-good : 4 ≤ length s → (kindOf s ≡ 3 → ⊥) → 4 + sizeOf s ≤ length s → 0 ≡ headNumberOf s
+  pub head-good : 4 ≤ length s → (kindOf s ≡ 3 → ⊥) → 4 + firstSizeOf s ≤ length s → 0 ≡ headNumberOf s
   unfolding headNumberOf
-  head-good h k p = simp (le-ltb (length s) 4 h, ne-eqb (kindOf s) 3 k, le-ltb (length s) (4 + sizeOf s) p) refl
+  head-good h k p = simp (le-ltb (length s) 4 h, ne-eqb (kindOf s) 3 k, le-ltb (length s) (4 + firstSizeOf s) p) refl
 
   pub record Good : Type 0 where
     pub four : 4 ≤ length s
     pub known : kindOf s ≡ 3 → ⊥
-    pub room : 4 + sizeOf s ≤ length s
+    pub room : 4 + firstSizeOf s ≤ length s
 
   pub head-facts : headNumberOf s ≡ 0 → Good
   unfolding headNumberOf
@@ -100,10 +100,10 @@ module _ (s : List ℕ) where
       (record { four = ltb-false _ _ (n .0); known = eqb-false _ _ (n .1 .0); room = ltb-false _ _ (n .1 .1 .0) }, n .1 .1 .1 .0)
 
   -- past the first stream, or elsewhere in the payload
-  pub follows-in : Good → (other : ℕ) → 4 ≤ other → other ≤ length s → (4 ≤ follows (kindOf s) (sizeOf s) other) × (follows (kindOf s) (sizeOf s) other ≤ length s)
+  pub follows-in : Good → (other : ℕ) → 4 ≤ other → other ≤ length s → (4 ≤ follows (kindOf s) (firstSizeOf s) other) × (follows (kindOf s) (firstSizeOf s) other ≤ length s)
   follows-in g other h k = go (eqb (kindOf s) 0)
     where
-      go : (b : Bool) → (4 ≤ cond b (4 + sizeOf s) other) × (cond b (4 + sizeOf s) other ≤ length s)
+      go : (b : Bool) → (4 ≤ cond b (4 + firstSizeOf s) other) × (cond b (4 + firstSizeOf s) other ≤ length s)
       go true = (omega arith, g .room)
       go false = (h, k)
 
@@ -132,11 +132,11 @@ module _ (s : List ℕ) where
   read-carried e p = sym (cond-true (eqb (readNumberOf s) 0) _ _ (eq-eqb _ _ (number-past e (streamsPast s) ∙ cond-false (streamsPast s) 10 0 p)))
 
 -- the call, from what its steps found: k and z are the kind and the size as the code has them
-module _ (s : List ℕ) {k z : ℕ} (is-kind : k ≡ kindOf s) (is-size : z ≡ sizeOf s) where
-  abbrev luma : Values
+module _ (s : List ℕ) {k z : ℕ} (is-kind : k ≡ kindOf s) (is-size : z ≡ firstSizeOf s) where
+  abbrev luma : FoundValues
   luma = carriedAt (carriesLuma (kindOf s)) s 4 (lumaEnd s)
 
-  abbrev chroma : Values
+  abbrev chroma : FoundValues
   chroma = carriedAt (carriesChroma (kindOf s)) s (chromaStart s) (length s)
 
   pub luma-is : {p : ℕ} → p ≡ follows k z (length s) → carriedAt (not (eqb k 2)) s 4 p ≡ luma

@@ -12,7 +12,7 @@ use lib.ListN.{length}
 use Rattle.fields.specs.Fields.{u32At}
 use Rattle.wire.specs.declared.Stream.{Stream}
 use Rattle.wire.specs.declared.Avc444.{Avc444}
-use Rattle.wire.specs.Reading.{kindOf, sizeOf, noStream}
+use Rattle.wire.specs.Reading.{kindOf, firstSizeOf, noStream}
 
 pub record Parts : Type 0 where
   pub count : List ℕ
@@ -38,9 +38,9 @@ placesAt a p = record {
 }
 
 pub data Payload : List ℕ → Avc444 → Type 0 where
-  both : (h : List ℕ) (l c : Parts) → length h ≡ 4 → kindOf h ≡ 0 → sizeOf h ≡ length (bytesOf l) → Sound l → Sound c
+  both : (h : List ℕ) (l c : Parts) → length h ≡ 4 → kindOf h ≡ 0 → firstSizeOf h ≡ length (bytesOf l) → Sound l → Sound c
       → Payload (h ++ (bytesOf l ++ bytesOf c)) (record { number = 0; kind = 0; luma = placesAt 4 l; chroma = placesAt (4 + length (bytesOf l)) c })
-  luma : (h : List ℕ) (l : Parts) → length h ≡ 4 → kindOf h ≡ 1 → sizeOf h ≤ length (bytesOf l) → Sound l
+  luma : (h : List ℕ) (l : Parts) → length h ≡ 4 → kindOf h ≡ 1 → firstSizeOf h ≤ length (bytesOf l) → Sound l
       → Payload (h ++ bytesOf l) (record { number = 0; kind = 1; luma = placesAt 4 l; chroma = noStream })
-  chroma : (h : List ℕ) (c : Parts) → length h ≡ 4 → kindOf h ≡ 2 → sizeOf h ≤ length (bytesOf c) → Sound c
+  chroma : (h : List ℕ) (c : Parts) → length h ≡ 4 → kindOf h ≡ 2 → firstSizeOf h ≤ length (bytesOf c) → Sound c
       → Payload (h ++ bytesOf c) (record { number = 0; kind = 2; luma = noStream; chroma = placesAt 4 c })

@@ -2,19 +2,20 @@
 -- say what is carried (0 both, 1 luma only, 2 chroma only), then one or two AVC420 streams. Each has a u32 count, that many rectangles of
 -- four u16, that many pairs of quantiser and quality bytes, and the H.264 bytes to the stream's end."
 --
---   kindOf s, sizeOf s          what the payload's first number says is carried, and the first stream's size
+--   kindOf s, firstSizeOf s     what the payload's first number says is carried, and the first stream's size
 --   carriesLuma, carriesChroma  which streams a kind carries
 --   follows kind size other     "In kind 0 the second stream is what follows the first": past the first stream there, `other` elsewhere
 --   lumaEnd s, chromaStart s    where the luma stream ends, which starts at 4, and where the chroma stream starts, which ends at the
 --                               payload's end: "in kinds 1 and 2 the one stream runs to the payload's end"
 --   streamIn s a e              where the parts of the stream from a to e stand
 --   pastEnd s a e               "a count, rectangle or quantiser pair runs past its stream"
---   Values, foundOf             document 02's number and a stream's places, for each case of a stream looked for
+--   FoundValues, foundOf        document 02's number and a stream's places, for each case of a stream looked for
 --   streamAt, carriedAt         these of the stream from a to e, where it is carried
 --   headNumberOf s              "9 for a payload below 4 bytes, then 8 for kind 3, then 9 when the size, in any kind, runs past the payload"
 --   streamsPast s               10, by a stream that is carried
 --   readNumberOf s              the number of the call
---   readOf s                    its answer
+--   readOf s                    its answer: `carriedOf` where the number is 0, else `refusedWith`, all 0 but the number
+--   PartsInside x n             the parts of a stream lie in n bytes, each where the one before it ends
 use Prim.Native.Nat.{ℕ, _+_, _*_, _-_, _≤_}
 use mathlib.Core.Path.{_≡_}
 use mathlib.Core.Bool.{Bool, cond, not, _&&_, _||_}
@@ -31,8 +32,8 @@ use Rattle.wire.specs.declared.Found.the-variants.{Whole, Past}
 abbrev pub kindOf : List ℕ → ℕ
 kindOf s = kindIn (u32At s 0)
 
-abbrev pub sizeOf : List ℕ → ℕ
-sizeOf s = sizeIn (u32At s 0)
+abbrev pub firstSizeOf : List ℕ → ℕ
+firstSizeOf s = sizeIn (u32At s 0)
 
 abbrev pub carriesLuma : ℕ → Bool
 carriesLuma kind = not (eqb kind 2)
@@ -44,10 +45,10 @@ abbrev pub follows : ℕ → ℕ → ℕ → ℕ
 follows kind size other = cond (eqb kind 0) (4 + size) other
 
 abbrev pub lumaEnd : List ℕ → ℕ
-lumaEnd s = follows (kindOf s) (sizeOf s) (length s)
+lumaEnd s = follows (kindOf s) (firstSizeOf s) (length s)
 
 abbrev pub chromaStart : List ℕ → ℕ
-chromaStart s = follows (kindOf s) (sizeOf s) 4
+chromaStart s = follows (kindOf s) (firstSizeOf s) 4
 
 abbrev pub streamIn : List ℕ → ℕ → ℕ → Stream
 streamIn s a e = record {
@@ -64,28 +65,28 @@ noStream = record { count = 0; rects = 0; pairs = 0; «data» = 0; length = 0 }
 unfoldable pub pastEnd : List ℕ → ℕ → ℕ → Bool
 pastEnd s a e = ltb e (a + 4) || ltb e (a + 4 + 10 * u32At s a)
 
-pub record Values : Type 0 where
+pub record FoundValues : Type 0 where
   pub number : ℕ
   pub stream : Stream
 
-abbrev pub whole : Stream → Values
-whole x = record { number = 0; stream = x }
+abbrev pub wholeStream : Stream → FoundValues
+wholeStream x = record { number = 0; stream = x }
 
-abbrev pub past : Values
-past = record { number = 10; stream = noStream }
+abbrev pub pastStream : FoundValues
+pastStream = record { number = 10; stream = noStream }
 
-abbrev pub foundOf : Found → Values
-foundOf (Whole x) = whole x
-foundOf Past = past
+abbrev pub foundOf : Found → FoundValues
+foundOf (Whole x) = wholeStream x
+foundOf Past = pastStream
 
-abbrev pub streamAt : List ℕ → ℕ → ℕ → Values
-streamAt s a e = cond (pastEnd s a e) past (whole (streamIn s a e))
+abbrev pub streamAt : List ℕ → ℕ → ℕ → FoundValues
+streamAt s a e = cond (pastEnd s a e) pastStream (wholeStream (streamIn s a e))
 
-abbrev pub carriedAt : Bool → List ℕ → ℕ → ℕ → Values
-carriedAt is s a e = cond is (streamAt s a e) (whole noStream)
+abbrev pub carriedAt : Bool → List ℕ → ℕ → ℕ → FoundValues
+carriedAt is s a e = cond is (streamAt s a e) (wholeStream noStream)
 
 abbrev pub headTests : List ℕ → List (Bool × ℕ)
-headTests s = (ltb (length s) 4, 9) ∷ (eqb (kindOf s) 3, 8) ∷ (ltb (length s) (4 + sizeOf s), 9) ∷ []
+headTests s = (ltb (length s) 4, 9) ∷ (eqb (kindOf s) 3, 8) ∷ (ltb (length s) (4 + firstSizeOf s), 9) ∷ []
 
 unfoldable pub headNumberOf : List ℕ → ℕ
 headNumberOf s = refusal (headTests s)
@@ -110,8 +111,7 @@ carriedOf s = record {
 unfoldable pub readOf : List ℕ → Avc444
 readOf s = cond (eqb (readNumberOf s) 0) (carriedOf s) (refusedWith (readNumberOf s))
 
--- a stream's parts lie in n bytes, each where the one before it ends
-pub record Inside (x : Stream) (n : ℕ) : Type 0 where
+pub record PartsInside (x : Stream) (n : ℕ) : Type 0 where
   pub pairs-follow : x .pairs ≡ x .rects + 8 * x .count
   pub data-follow : x .«data» ≡ x .pairs + 2 * x .count
   pub ends : x .«data» + x .length ≤ n

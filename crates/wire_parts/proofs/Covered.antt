@@ -10,7 +10,7 @@ use lib.ListN.{length, take, drop, length-append}
 use lib.Seq.{take-append-seam, drop-append-seam}
 use Rattle.fields.specs.Fields.{u32At}
 use Rattle.wire.specs.declared.Avc444.{Avc444}
-use Rattle.wire.specs.Reading.{kindOf, sizeOf, carriesLuma, carriesChroma, readNumberOf, readOf}
+use Rattle.wire.specs.Reading.{kindOf, firstSizeOf, carriesLuma, carriesChroma, readNumberOf, readOf}
 use Rattle.wire.specs.Format.{Parts, bytesOf, Sound, placesAt, Payload}
 use Rattle.wire.specs.Format.Payload.{both, luma, chroma}
 use Rattle.wire.proofs.Format.{format-read, read-format, kind-is}
@@ -77,7 +77,7 @@ last-back pre p a f e = ap (λ (x : List ℕ). partsAt (pre ++ x) (placesAt a p)
 -- ---- a payload of the format is read into its parts
 
 module _ (h : List ℕ) (four : length h ≡ 4) where
-  module _ (l c : Parts) (k : kindOf h ≡ 0) (z : sizeOf h ≡ length (bytesOf l)) (f : Sound l) (g : Sound c) where
+  module _ (l c : Parts) (k : kindOf h ≡ 0) (z : firstSizeOf h ≡ length (bytesOf l)) (f : Sound l) (g : Sound c) where
     abbrev s : List ℕ
     s = h ++ (bytesOf l ++ bytesOf c)
 
@@ -92,7 +92,7 @@ module _ (h : List ℕ) (four : length h ≡ 4) where
           ∙ last-back (h ++ bytesOf l) c (4 + length (bytesOf l)) g (omega (arith, length-append h (bytesOf l))),
     )
 
-  module _ (p : Parts) (z : sizeOf h ≤ length (bytesOf p)) (f : Sound p) where
+  module _ (p : Parts) (z : firstSizeOf h ≤ length (bytesOf p)) (f : Sound p) where
     pub luma-parts : kindOf h ≡ 1 → partsOf (h ++ bytesOf p) Luma ≡ p
     luma-parts k = ap (λ (a : Avc444). partsAt (h ++ bytesOf p) (a .luma)) (format-read _ _ (luma h p four k z f)) ∙ last-back h p 4 f four
 

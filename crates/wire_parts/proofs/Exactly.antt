@@ -14,11 +14,11 @@ use Rattle.lent.specs.declared.Answer.{Answer}
 use Rattle.lent.specs.Outcome.{Outcome, OwnPart, answerOf, lentAfter}
 use Rattle.lent.specs.Refusal.{refusal}
 use Rattle.lent.proofs.Outcome.{outcome-unique, ownPart-unique}
-use Rattle.wire.specs.Reading.{kindOf, sizeOf, streamsPast, readNumberOf}
+use Rattle.wire.specs.Reading.{kindOf, firstSizeOf, streamsPast, readNumberOf}
 use Rattle.wire_parts.specs.declared.Which.{Which}
 use Rattle.wire_parts.specs.declared.Rectangle.{Rectangle}
 use Rattle.wire_parts.specs.declared.Pair.{Pair}
-use Rattle.wire_parts.specs.Parts.{placesOf, partsOf, rectangleIn, noRectangle, rectangleOf, pairIn, noPair, pairOf, numbersOf, copyNumberOf, CopyOutcome}
+use Rattle.wire_parts.specs.Parts.{placesOf, partsOf, rectangleIn, noRectangle, rectangleAtOf, pairIn, noPair, pairAtOf, numbersOf, copyNumberOf, CopyOutcome}
 use Rattle.wire_parts.proofs.Parts.{copy-first, copy-6, copy-0}
 
 -- ---- one end
@@ -41,11 +41,11 @@ module _ (payload : RefT (List ℕ)) (w : Which) (r q : RefT (List ℕ)) where
   h264-unique x y = ownPart-unique x y
 
 module _ (s : List ℕ) (w : Which) where
-  pub rectangle-unique : (i : ℕ) (r q : Rectangle) → Outcome (rectangleOf s w i) [] r [] → Outcome (rectangleOf s w i) [] q [] → r ≡ q
-  rectangle-unique i r q x y = outcome-unique (rectangleOf s w) (λ k. []) i r q [] [] x y .0
+  pub rectangle-unique : (i : ℕ) (r q : Rectangle) → Outcome (rectangleAtOf s w i) [] r [] → Outcome (rectangleAtOf s w i) [] q [] → r ≡ q
+  rectangle-unique i r q x y = outcome-unique (rectangleAtOf s w) (λ k. []) i r q [] [] x y .0
 
-  pub pair-unique : (i : ℕ) (r q : Pair) → Outcome (pairOf s w i) [] r [] → Outcome (pairOf s w i) [] q [] → r ≡ q
-  pair-unique i r q x y = outcome-unique (pairOf s w) (λ k. []) i r q [] [] x y .0
+  pub pair-unique : (i : ℕ) (r q : Pair) → Outcome (pairAtOf s w i) [] r [] → Outcome (pairAtOf s w i) [] q [] → r ≡ q
+  pair-unique i r q x y = outcome-unique (pairAtOf s w) (λ k. []) i r q [] [] x y .0
 
   pub copy-unique : (out : List ℕ) (r q : Answer) (rs qs : List (List ℕ)) → CopyOutcome s w out r rs → CopyOutcome s w out q qs → (r ≡ q) × (rs ≡ qs)
   copy-unique =
@@ -58,33 +58,33 @@ module _ (s : List ℕ) (w : Which) (i : ℕ) where
   abbrev count : ℕ
   count = placesOf s w .count
 
-  rectangle-test : rectangleOf s w i .present ≡ ltb i count
-  unfolding rectangleOf
+  rectangle-test : rectangleAtOf s w i .present ≡ ltb i count
+  unfolding rectangleAtOf
   rectangle-test = go (ltb i count)
     where
       go : (b : Bool) → cond b (rectangleIn (readNumberOf s) s (placesOf s w .rects + 8 * i)) (noRectangle (readNumberOf s)) .present ≡ b
       go true = refl
       go false = refl
 
-  pair-test : pairOf s w i .present ≡ ltb i count
-  unfolding pairOf
+  pair-test : pairAtOf s w i .present ≡ ltb i count
+  unfolding pairAtOf
   pair-test = go (ltb i count)
     where
       go : (b : Bool) → cond b (pairIn (readNumberOf s) s (placesOf s w .pairs + 2 * i)) (noPair (readNumberOf s)) .present ≡ b
       go true = refl
       go false = refl
 
-  pub rectangle-present-exactly : (rectangleOf s w i .present ≡ true) ↔ (i < count)
+  pub rectangle-present-exactly : (rectangleAtOf s w i .present ≡ true) ↔ (i < count)
   rectangle-present-exactly = (λ e. ltb-true i count (sym rectangle-test ∙ e), λ h. rectangle-test ∙ lt-ltb i count h)
 
-  pub pair-present-exactly : (pairOf s w i .present ≡ true) ↔ (i < count)
+  pub pair-present-exactly : (pairAtOf s w i .present ≡ true) ↔ (i < count)
   pair-present-exactly = (λ e. ltb-true i count (sym pair-test ∙ e), λ h. pair-test ∙ lt-ltb i count h)
 
 -- ---- the copy's numbers
 
 no-6 : (s : List ℕ) → readNumberOf s ≡ 6 → ⊥
 unfolding readNumberOf
-no-6 s = go (ltb (length s) 4) (eqb (kindOf s) 3) (ltb (length s) (4 + sizeOf s)) (streamsPast s)
+no-6 s = go (ltb (length s) 4) (eqb (kindOf s) 3) (ltb (length s) (4 + firstSizeOf s)) (streamsPast s)
   where
     go : (a b c d : Bool) → refusal ((a, 9) ∷ (b, 8) ∷ (c, 9) ∷ (d, 10) ∷ []) ≡ 6 → ⊥
     go true b c d e = omega arith

@@ -12,22 +12,22 @@ use Rattle.lent.proofs.Bools.{cond-true, cond-false}
 use Rattle.fields.specs.Fields.{u16At}
 use Rattle.wire.specs.declared.Stream.{Stream}
 use Rattle.wire.specs.declared.Avc444.{Avc444}
-use Rattle.wire.specs.Reading.{readNumberOf, readOf, Inside}
+use Rattle.wire.specs.Reading.{readNumberOf, readOf, PartsInside}
 use Rattle.wire.proofs.Exactly.{answer-number, read-inside}
 use Rattle.wire_parts.specs.declared.Which.{Which}
 use Rattle.wire_parts.specs.declared.Which.the-variants.{Luma, Chroma}
-use Rattle.wire_parts.specs.Parts.{streamOf, placesOf, hereIn, rectangleIn, noRectangle, rectangleOf, pairIn, noPair, pairOf, numbersOf, copyNumberOf}
+use Rattle.wire_parts.specs.Parts.{streamOf, placesOf, hereIn, rectangleIn, noRectangle, rectangleAtOf, pairIn, noPair, pairAtOf, numbersOf, copyNumberOf}
 
-pub inside : (s : List ℕ) (w : Which) → Inside (placesOf s w) (length s)
+pub inside : (s : List ℕ) (w : Which) → PartsInside (placesOf s w) (length s)
 inside s Luma = read-inside s .0
 inside s Chroma = read-inside s .1
 
 -- the number and the stream that are taken out of what was read
-pub taken : (s : List ℕ) (w v : Which) (a : Avc444) → a ≡ readOf s → w ≡ v → (record { number = a .number; places = streamOf v a } ≡ hereIn s w) × Inside (streamOf v a) (length s)
+pub taken : (s : List ℕ) (w v : Which) (a : Avc444) → a ≡ readOf s → w ≡ v → (record { number = a .number; places = streamOf v a } ≡ hereIn s w) × PartsInside (streamOf v a) (length s)
 taken s w v a is e =
     let number-is = ap (λ (x : Avc444). x .number) is ∙ answer-number s in
     let places-are : streamOf v a ≡ placesOf s w = (λ i. streamOf (sym e i) (is i)) in
-    (λ i. record { number = number-is i; places = places-are i }, subst (λ (x : Stream). Inside x (length s)) (sym places-are) (inside s w))
+    (λ i. record { number = number-is i; places = places-are i }, subst (λ (x : Stream). PartsInside x (length s)) (sym places-are) (inside s w))
 
 -- one rectangle and one pair, from what the calls found: n is the number, x the stream
 module _ (s : List ℕ) (w : Which) (i : ℕ) {n : ℕ} {x : Stream} (is-number : n ≡ readNumberOf s) (is-stream : x ≡ placesOf s w) where
@@ -37,20 +37,20 @@ module _ (s : List ℕ) (w : Which) (i : ℕ) {n : ℕ} {x : Stream} (is-number 
   absent : x .count ≤ i → ltb i (placesOf s w .count) ≡ false
   absent h = le-ltb i (placesOf s w .count) (subst (λ (y : Stream). y .count ≤ i) is-stream h)
 
-  pub rectangle-none : x .count ≤ i → noRectangle n ≡ rectangleOf s w i
-  unfolding rectangleOf
+  pub rectangle-none : x .count ≤ i → noRectangle n ≡ rectangleAtOf s w i
+  unfolding rectangleAtOf
   rectangle-none h = ap noRectangle is-number ∙ sym (cond-false (ltb i (placesOf s w .count)) _ _ (absent h))
 
-  pub rectangle-some : i < x .count → rectangleIn n s (x .rects + 8 * i) ≡ rectangleOf s w i
-  unfolding rectangleOf
+  pub rectangle-some : i < x .count → rectangleIn n s (x .rects + 8 * i) ≡ rectangleAtOf s w i
+  unfolding rectangleAtOf
   rectangle-some h = (λ j. rectangleIn (is-number j) s (is-stream j .rects + 8 * i)) ∙ sym (cond-true (ltb i (placesOf s w .count)) _ _ (present h))
 
-  pub pair-none : x .count ≤ i → noPair n ≡ pairOf s w i
-  unfolding pairOf
+  pub pair-none : x .count ≤ i → noPair n ≡ pairAtOf s w i
+  unfolding pairAtOf
   pair-none h = ap noPair is-number ∙ sym (cond-false (ltb i (placesOf s w .count)) _ _ (absent h))
 
-  pub pair-some : i < x .count → pairIn n s (x .pairs + 2 * i) ≡ pairOf s w i
-  unfolding pairOf
+  pub pair-some : i < x .count → pairIn n s (x .pairs + 2 * i) ≡ pairAtOf s w i
+  unfolding pairAtOf
   pair-some h = (λ j. pairIn (is-number j) s (is-stream j .pairs + 2 * i)) ∙ sym (cond-true (ltb i (placesOf s w .count)) _ _ (present h))
 
 -- the number of the copy

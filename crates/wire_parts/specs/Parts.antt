@@ -4,9 +4,9 @@
 --   streamOf w a, placesOf s w      one of the two streams of an answer, and of the payload s: all 0 where it is not carried, and in a refusal
 --   hereIn s w                      the number of the payload, and where that stream's parts stand
 --   partsAt s x, partsOf s w        the bytes of a stream's count, of its rectangles, of its pairs, and its H.264 bytes, each where it stands
---   carried w kind, streamBytes s w whether a kind carries the stream, and all its bytes, if it is carried
---   rectangleOf s w i               rectangle i: present where i is below the count, four u16
---   pairOf s w i                    pair i: a quantiser byte and a quality byte
+--   carries w kind, streamBytes s w whether a kind carries the stream, and all its bytes, if it is carried
+--   rectangleAtOf s w i             rectangle i: present where i is below the count, four u16
+--   pairAtOf s w i                  pair i: a quantiser byte and a quality byte
 --   numbersOf s w out               out with the rectangles' numbers in front, four for each
 --   copyNumberOf s w n              the payload's number, then 6: n numbers are fewer than the rectangles have
 --   CopyOutcome s w out             how the copy ends, refusals included
@@ -51,12 +51,12 @@ partsAt s x = record {
 abbrev pub partsOf : List ℕ → Which → Parts
 partsOf s w = partsAt s (placesOf s w)
 
-abbrev pub carried : Which → ℕ → Bool
-carried Luma = carriesLuma
-carried Chroma = carriesChroma
+abbrev pub carries : Which → ℕ → Bool
+carries Luma = carriesLuma
+carries Chroma = carriesChroma
 
 abbrev pub streamBytes : List ℕ → Which → List ℕ
-streamBytes s w = cond (carried w (kindOf s)) (bytesOf (partsOf s w)) []
+streamBytes s w = cond (carries w (kindOf s)) (bytesOf (partsOf s w)) []
 
 abbrev pub rectangleIn : ℕ → List ℕ → ℕ → Rectangle
 rectangleIn n s at = record {
@@ -71,8 +71,8 @@ rectangleIn n s at = record {
 abbrev pub noRectangle : ℕ → Rectangle
 noRectangle n = record { number = n; present = false; left = 0; top = 0; right = 0; bottom = 0 }
 
-unfoldable pub rectangleOf : List ℕ → Which → ℕ → Rectangle
-rectangleOf s w i = cond (ltb i (placesOf s w .count)) (rectangleIn (readNumberOf s) s (placesOf s w .rects + 8 * i)) (noRectangle (readNumberOf s))
+unfoldable pub rectangleAtOf : List ℕ → Which → ℕ → Rectangle
+rectangleAtOf s w i = cond (ltb i (placesOf s w .count)) (rectangleIn (readNumberOf s) s (placesOf s w .rects + 8 * i)) (noRectangle (readNumberOf s))
 
 abbrev pub pairIn : ℕ → List ℕ → ℕ → Pair
 pairIn n s at = record {
@@ -87,8 +87,8 @@ pairIn n s at = record {
 abbrev pub noPair : ℕ → Pair
 noPair n = record { number = n; present = false; value = 0; reserved = false; progressive = false; quality = 0 }
 
-unfoldable pub pairOf : List ℕ → Which → ℕ → Pair
-pairOf s w i = cond (ltb i (placesOf s w .count)) (pairIn (readNumberOf s) s (placesOf s w .pairs + 2 * i)) (noPair (readNumberOf s))
+unfoldable pub pairAtOf : List ℕ → Which → ℕ → Pair
+pairAtOf s w i = cond (ltb i (placesOf s w .count)) (pairIn (readNumberOf s) s (placesOf s w .pairs + 2 * i)) (noPair (readNumberOf s))
 
 unfoldable pub numbersOf : List ℕ → Which → List ℕ → List ℕ
 numbersOf s w out = paint (λ k. ltb k (4 * placesOf s w .count)) (λ k. u16At s (placesOf s w .rects + 2 * k)) out

@@ -11,8 +11,8 @@ ghost use lib.ListN.{length, take, drop};
 ghost use Rattle.lent.specs.Outcome.{Outcome, OwnPart};
 ghost use Rattle.lent.specs.Paint.{paint};
 ghost use Rattle.fields.specs.Fields.{u16At};
-ghost use Rattle.wire.specs.Reading.{readNumberOf, Inside};
-ghost use Rattle.wire_parts.specs.Parts.{placesOf, hereIn, partsOf, rectangleOf, pairOf, CopyOutcome};
+ghost use Rattle.wire.specs.Reading.{readNumberOf, PartsInside};
+ghost use Rattle.wire_parts.specs.Parts.{placesOf, hereIn, partsOf, rectangleAtOf, pairAtOf, CopyOutcome};
 use wire::Stream;
 
 // One of the two streams that a payload may carry.
@@ -59,7 +59,7 @@ pub fn number(payload: &[u8]) -> u32
 
 // The payload is read once, and its parts lie inside it.
 fn find(payload: &[u8], which: Which) -> Here
-    ensures { λ r. ⌜ (r ≡ hereIn (now (payload .entry)) which) × Inside (r .places) (length (now (payload .entry))) ⌝ }
+    ensures { λ r. ⌜ (r ≡ hereIn (now (payload .entry)) which) × PartsInside (r .places) (length (now (payload .entry))) ⌝ }
 {
     let a = wire::read(payload);
     let luma = a.luma;
@@ -111,7 +111,7 @@ pub fn h264<'a>(payload: &'a [u8], which: Which) -> &'a [u8]
 
 // Rectangle i of a stream.
 pub fn rectangle_at(payload: &[u8], which: Which, i: usize) -> Rectangle
-    ensures { λ r. ⌜ Outcome (rectangleOf (now (payload .entry)) which i) [] r [] ⌝ }
+    ensures { λ r. ⌜ Outcome (rectangleAtOf (now (payload .entry)) which i) [] r [] ⌝ }
 {
     let here = find(payload, which);
     let number = here.number;
@@ -139,7 +139,7 @@ pub fn rectangle_at(payload: &[u8], which: Which, i: usize) -> Rectangle
 
 // Pair i of a stream.
 pub fn pair_at(payload: &[u8], which: Which, i: usize) -> Pair
-    ensures { λ r. ⌜ Outcome (pairOf (now (payload .entry)) which i) [] r [] ⌝ }
+    ensures { λ r. ⌜ Outcome (pairAtOf (now (payload .entry)) which i) [] r [] ⌝ }
 {
     let here = find(payload, which);
     let number = here.number;

@@ -2,7 +2,7 @@
 -- Assumes nothing.
 use mathlib.Core.Path.{sym, ap, _∙_}
 use Rattle.lent.proofs.Bools.{cond-true, cond-false}
-use Rattle.wire.specs.Reading.{whole}
+use Rattle.wire.specs.Reading.{wholeStream}
 use borrow.Author.Needs.{needs}
 use Rattle.wire.proofs.find_carried.Statement.{statement}
 use Rattle.wire.proofs.find_carried.Tie as tie
@@ -17,7 +17,7 @@ none-requires : tie.Need-none-requires
 none-requires c κs = search needs
 
 returns-2 : tie.Need-returns-2
-returns-2 c = ap whole (c .none .ensures) ∙ sym (cond-false _ _ _ (c .before .if1 .left))
+returns-2 c = ap wholeStream (c .none .ensures) ∙ sym (cond-false _ _ _ (c .before .if1 .left))
 
 pub find-carried-spec : {M : Type 1} → statement M
 find-carried-spec = tie.close (tie.spec find-stream-requires returns none-requires returns-2)

@@ -6,7 +6,7 @@ use mathlib.Core.Path.{_≡_, refl, sym, ap, subst, _∙_}
 use lib.ListN.{length}
 use denote.Ref.{now}
 use Rattle.fields.specs.Fields.{kindIn, sizeIn}
-use Rattle.wire.specs.Reading.{kindOf, sizeOf, follows, headNumberOf}
+use Rattle.wire.specs.Reading.{kindOf, firstSizeOf, follows, headNumberOf}
 use Rattle.wire.proofs.Reading.{head-facts, follows-in, read-refused, luma-is, chroma-is, first-past, second-past, both-whole}
 use borrow.Author.Needs.{needs}
 use Rattle.wire.proofs.read.Statement.{statement}
@@ -19,7 +19,7 @@ good c = sym (c .before .before .before .before .head-number .ensures) ∙ c .be
 kind-is : (c : tie.After-size) → c .before .kind .result ≡ kindOf (now (c .before .before .before .before .before .before .args .payload))
 kind-is c = c .before .kind .ensures ∙ ap kindIn (c .before .before .u32-at .ensures)
 
-size-is : (c : tie.After-size) → c .size .result ≡ sizeOf (now (c .before .before .before .before .before .before .args .payload))
+size-is : (c : tie.After-size) → c .size .result ≡ firstSizeOf (now (c .before .before .before .before .before .before .args .payload))
 size-is c = c .size .ensures ∙ ap sizeIn (c .before .before .u32-at .ensures)
 
 -- past the first stream, or elsewhere in the payload
