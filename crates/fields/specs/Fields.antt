@@ -2,6 +2,7 @@
 -- stream's size and whose top two bits say what is carried"; "The quantiser byte is six bits of value and two flags".
 --
 --   u16At s at, u32At s at      the little-endian number whose first byte stands at `at`
+--   u16Bytes n, u32Bytes n      a number's bytes, the lowest first
 --   sizeIn info, kindIn info    the low 30 bits of the first number of a payload, and its top two bits
 --   infoOf kind size            the number that has two bits of kind and 30 bits of size
 --   quantiserIn b               the six bits of value of a quantiser byte, and its two flags, bits 6 and 7
@@ -9,7 +10,7 @@
 --   quantiserByteOf q           the byte that has them
 use Prim.Native.Nat.{ℕ, _+_, _*_, _/_, _%_, _^_}
 use mathlib.Core.Bool.{Bool, cond}
-use mathlib.Core.List.{List}
+use mathlib.Core.List.{List, [], _∷_}
 use lib.Dec.{eqb}
 use lib.ListN.{getD}
 use Rattle.fields.specs.declared.Quantiser.{Quantiser}
@@ -19,6 +20,12 @@ u16At s at = getD s at 0 + getD s (at + 1) 0 * 256
 
 unfoldable pub u32At : List ℕ → ℕ → ℕ
 u32At s at = getD s at 0 + getD s (at + 1) 0 * 256 + getD s (at + 2) 0 * 65536 + getD s (at + 3) 0 * 16777216
+
+unfoldable pub u16Bytes : ℕ → List ℕ
+u16Bytes n = n % 256 ∷ n / 256 % 256 ∷ []
+
+unfoldable pub u32Bytes : ℕ → List ℕ
+u32Bytes n = n % 256 ∷ n / 256 % 256 ∷ n / 65536 % 256 ∷ n / 16777216 % 256 ∷ []
 
 abbrev pub sizeIn : ℕ → ℕ
 sizeIn info = info % 2 ^ 30
