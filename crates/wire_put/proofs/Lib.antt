@@ -1,0 +1,2 @@
+-- The laws of the stream writer.
+pub mod Stream

@@ -1,0 +1,2 @@
+-- A stream as its bytes.
+pub mod Stream
