@@ -1,0 +1,3 @@
+-- The laws of the numbers.
+pub mod Number
+pub mod Exactly

@@ -1,0 +1,2 @@
+-- The numbers of a call that writes a payload.
+pub mod Number
