@@ -1,0 +1,2 @@
+-- The payload as it is written.
+pub mod Writing
