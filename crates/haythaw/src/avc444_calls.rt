@@ -1,9 +1,11 @@
-// The AVC444 payload: what it carries and where, one rectangle or pair of a stream, and its rectangles as an apply call takes them.
+// The AVC444 payload: what it carries and where, one rectangle or pair of a stream, its rectangles as an apply call takes them, and the
+// payload written.
 ghost use mathlib.Core.List.{[], _∷_};
 ghost use Rattle.lent.specs.Outcome.{Outcome};
 ghost use Rattle.wire.specs.Reading.{readOf};
 ghost use Rattle.wire_parts.specs.Parts.{CopyOutcome, rectangleAtOf, pairAtOf};
 ghost use Rattle.wire_parts.specs.declared.Which.the-variants.{Luma, Chroma};
+ghost use Rattle.wire_write.specs.Writing.{given, WriteOutcome};
 use wire_parts::Which;
 
 // Which streams a payload carries, and where their parts stand in it. 0, 9, 8 or 10.
@@ -60,4 +62,33 @@ pub extern "C" fn haythaw_avc444_chroma_rects(payload: &[u8], out: &mut [u16]) -
     ensures { λ r. ⌜ CopyOutcome (now (payload .entry)) Chroma (now (out .entry)) r (now (out .exit) ∷ []) ⌝ }
 {
     wire_parts::copy_rects(payload, Which::Chroma, out)
+}
+
+// The payload of a kind (0 both streams, 1 luma only, 2 chroma only), rectangles in fours, two bytes of pair for each, and the H.264
+// bytes; the count is the bytes written. 0, 8, 7, 11 or 6.
+#[no_mangle]
+pub extern "C" fn haythaw_avc444_write(
+    kind: u32,
+    luma_rects: &[u16],
+    luma_pairs: &[u8],
+    luma_data: &[u8],
+    chroma_rects: &[u16],
+    chroma_pairs: &[u8],
+    chroma_data: &[u8],
+    out: &mut [u8],
+) -> lent::Answer
+    ensures { λ r. ⌜ WriteOutcome kind (given (now («luma_rects» .entry)) (now («luma_pairs» .entry)) (now («luma_data» .entry)))
+        (given (now («chroma_rects» .entry)) (now («chroma_pairs» .entry)) (now («chroma_data» .entry)))
+        (now (out .entry)) r (now (out .exit) ∷ []) ⌝ }
+{
+    wire_write::write(
+        kind,
+        luma_rects,
+        luma_pairs,
+        luma_data,
+        chroma_rects,
+        chroma_pairs,
+        chroma_data,
+        out,
+    )
 }
