@@ -67,8 +67,8 @@ pub u16-back : (n : ℕ) → n < 2 ^ 16 → u16At (u16Bytes n) 0 ≡ n
 unfolding u16At u16Bytes
 u16-back n h = omega arith
 
-pub u16-bytes : (a b : ℕ) → a < 256 → b < 256 → u16Bytes (a + b * 256) ≡ a ∷ b ∷ []
-unfolding u16Bytes
+pub u16-bytes : (a b : ℕ) → a < 256 → b < 256 → u16Bytes (u16At (a ∷ b ∷ []) 0) ≡ a ∷ b ∷ []
+unfolding u16At u16Bytes
 u16-bytes a b ha hb =
     let first : (a + b * 256) % 256 ≡ a = omega arith in
     let above : (a + b * 256) / 256 ≡ b = omega arith in

@@ -47,7 +47,8 @@ fn none() -> Stream
     }
 }
 
-fn refused(number: u32) -> Avc444
+// The answer of a refusal: all 0 but its number.
+pub fn refused(number: u32) -> Avc444
     ensures { λ r. ⌜ r ≡ refusedWith number ⌝ }
 {
     Avc444 {

@@ -11,7 +11,7 @@
 --   writeNumberOf kind l c n    the number of the call, where n bytes are lent for the output
 use Prim.Native.Nat.{ℕ, _+_, _*_, _/_, _%_, _^_}
 use mathlib.Core.Bool.{Bool, cond, not, _&&_, _||_}
-use mathlib.Core.List.{List, [], _∷_}
+use mathlib.Core.List.{[], _∷_}
 use lib.Dec.{ltb, leb, eqb}
 use Rattle.lent.specs.Refusal.{refusal}
 use Rattle.wire.specs.Reading.{carriesLuma, carriesChroma}

@@ -1,2 +1,3 @@
 -- The laws of the writer.
 pub mod Writing
+pub mod Ends

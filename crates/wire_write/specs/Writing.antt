@@ -18,7 +18,7 @@ use Rattle.wire.specs.Reading.{carriesLuma, carriesChroma}
 use Rattle.wire.specs.Format.{Parts, bytesOf}
 use Rattle.wire_put.specs.Stream.{partsFrom}
 use Rattle.wire_number.specs.declared.StreamSizes.{StreamSizes}
-use Rattle.wire_number.specs.Number.{bytesFor, payloadBytes, writeNumberOf}
+use Rattle.wire_number.specs.Number.{bytesFor, writeNumberOf}
 
 pub record Given : Type 0 where
   pub rects : List ℕ

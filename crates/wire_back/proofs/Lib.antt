@@ -1,0 +1,4 @@
+-- The two theorems, and bytes as numbers.
+pub mod Numbers
+pub mod Written
+pub mod Rewritten

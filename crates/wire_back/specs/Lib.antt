@@ -1,0 +1,2 @@
+-- What was written, read; and what was read, written.
+pub mod Back
