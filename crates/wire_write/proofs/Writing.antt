@@ -12,7 +12,7 @@ use Rattle.fields.specs.Fields.{u32Bytes, infoOf}
 use Rattle.fields.proofs.Bytes.{u32-long}
 use Rattle.wire.specs.Reading.{carriesLuma, carriesChroma}
 use Rattle.wire.specs.Format.{bytesOf}
-use Rattle.wire_put.proofs.Stream.{so-far, so-far-long, part-next, stream-long}
+use Rattle.wire_put.proofs.Stream.{so-far, part-next, stream-long}
 use Rattle.wire_number.specs.Number.{bytesFor, payloadBytes}
 use Rattle.wire_write.specs.Writing.{Given, sizesGiven, partsGiven, sizeFor, payloadOf, Placed}
 
@@ -72,12 +72,8 @@ module _ (kind : ℕ) (l c : Given) where
         ∙ part-next head luma out 4 (middle - 4) d (carried-long (carriesLuma kind) l ∙ sym size-is)
 
     -- what is lent for the chroma stream is as long as that
-    pub chroma-room : {x ls : List ℕ} → x ≡ u32Bytes (infoOf kind (middle - 4)) → ls ≡ luma
-        → length (take (end - middle) (drop middle (putMid 4 (middle - 4) (x ++ postOf 0 4 out) ls))) ≡ cond (carriesChroma kind) (bytesFor (sizesGiven c)) 0
-    chroma-room {x} {ls} e f =
-        let now = putMid 4 (middle - 4) (x ++ postOf 0 4 out) ls in
-        let g = luma-end in
-        let long : length now ≡ length out = ap length (luma-written e f) ∙ so-far-long (head ++ luma) out (omega (arith, p)) in
+    pub chroma-room : (now : List ℕ) → length now ≡ length out → length (take (end - middle) (drop middle now)) ≡ cond (carriesChroma kind) (bytesFor (sizesGiven c)) 0
+    chroma-room now long =
         let rest = length-drop middle now in
         let size : end - middle ≡ cond (carriesChroma kind) (bytesFor (sizesGiven c)) 0 = omega (arith, p) in
         length-take-le (end - middle) (drop middle now) (omega (arith, p)) ∙ size

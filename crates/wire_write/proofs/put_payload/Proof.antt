@@ -53,13 +53,11 @@ part-put-carried-end-2 c = search needs
 
 put-carried-requires-2 : tie.Need-put-carried-requires-2
 put-carried-requires-2 c κs =
-    let d = c .before .before .before in
-    let u = d .before .before .before .before in
-    let s = u .before .before .before .before .before .before .before .before .before .before in
+    let s = c .before .before .before .before .before .before .before .before .before .before .before .before .before .before .before .before .before in
     let a = s .args in
     let l = given (now (a .luma-rects)) (now (a .luma-pairs)) (now (a .luma-data)) in
     let m = given (now (a .chroma-rects)) (now (a .chroma-pairs)) (now (a .chroma-data)) in (
-      chroma-room (a .kind) l m (a .middle) (a .end) (now (a .out)) (s .pre) (u .put-u32 .ensures ∙ ap u32Bytes (u .before .info .ensures)) (d .put-carried .ensures),
+      chroma-room (a .kind) l m (a .middle) (a .end) (now (a .out)) (s .pre) _ (search needs),
       s .pre .chroma-count-fits,
     )
 
