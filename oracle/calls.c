@@ -31,6 +31,11 @@ Avc444 haythaw_avc444_read(const uint8_t *payload, size_t payload_count);
 Rectangle haythaw_avc444_luma_rectangle(const uint8_t *payload, size_t payload_count, size_t i);
 Pair haythaw_avc444_luma_pair(const uint8_t *payload, size_t payload_count, size_t i);
 Answer haythaw_avc444_luma_rects(const uint8_t *payload, size_t payload_count, uint16_t *out, size_t out_count);
+Answer haythaw_avc444_write(uint32_t kind, const uint16_t *luma_rects, size_t luma_rects_count,
+                            const uint8_t *luma_pairs, size_t luma_pairs_count, const uint8_t *luma_data, size_t luma_data_count,
+                            const uint16_t *chroma_rects, size_t chroma_rects_count, const uint8_t *chroma_pairs,
+                            size_t chroma_pairs_count, const uint8_t *chroma_data, size_t chroma_data_count,
+                            uint8_t *out, size_t out_count);
 size_t haythaw_allocation_size(uint16_t width, uint16_t height);
 uint32_t haythaw_new(uint16_t width, uint16_t height, uint8_t *y, size_t y_count, uint8_t *u, size_t u_count,
                      uint8_t *v, size_t v_count);
@@ -127,6 +132,23 @@ static void try_avc444(void)
     expect("AVC444, a copy refused", copied.number == 6 && copied.count == 0 && out[0] == 7);
     copied = haythaw_avc444_luma_rects(luma, 19, out, 5);
     expect("AVC444, a copy", copied.number == 0 && copied.count == 4 && out[0] == 1 && out[3] == 260 && out[4] == 7);
+}
+
+/* A payload of kind 0 is written, of six parts that all differ: luma is 4 + 8 + 2 + 3 = 17 bytes, chroma 4 + 16 + 4 + 1 = 25. */
+static void try_avc444_write(void)
+{
+    const uint16_t luma_rects[4] = {1, 2, 3, 260}, chroma_rects[8] = {5, 6, 7, 8, 9, 10, 11, 65535};
+    const uint8_t luma_pairs[2] = {0xD6, 100}, chroma_pairs[4] = {12, 13, 14, 15}, luma_data[3] = {16, 17, 18}, chroma_data[1] = {19};
+    const uint8_t both[47] = {17, 0, 0, 0, 1, 0, 0, 0, 1, 0, 2, 0, 3, 0, 4, 1, 0xD6, 100, 16, 17, 18,
+                              2, 0, 0, 0, 5, 0, 6, 0, 7, 0, 8, 0, 9, 0, 10, 0, 11, 0, 255, 255, 12, 13, 14, 15, 19, 7};
+    uint8_t out[47];
+    memset(out, 7, 47);
+    Answer answer = haythaw_avc444_write(0, luma_rects, 4, luma_pairs, 2, luma_data, 3, chroma_rects, 8, chroma_pairs, 4,
+                                         chroma_data, 1, out, 45);
+    expect("AVC444, a writing refused", answer.number == 6 && answer.count == 0 && out[0] == 7 && out[44] == 7);
+    answer = haythaw_avc444_write(0, luma_rects, 4, luma_pairs, 2, luma_data, 3, chroma_rects, 8, chroma_pairs, 4,
+                                  chroma_data, 1, out, 47);
+    expect("AVC444, a payload written", answer.number == 0 && answer.count == 46 && memcmp(out, both, 47) == 0);
 }
 
 /* A picture of 2 by 1 with planes of 256 bytes. */
@@ -235,6 +257,7 @@ int main(void)
     try_view();
     try_payload();
     try_avc444();
+    try_avc444_write();
     try_picture();
     try_view_and_picture();
     try_auxiliary();
