@@ -57,10 +57,11 @@ enum haythaw_number {
     HAYTHAW_VIEW_SHORT = 4,    /* a view's plane is shorter than its stride x its plane height, however large that product */
     HAYTHAW_SPLIT_LARGE = 5,   /* split: stride or rows is above 65,535 */
     HAYTHAW_OUTPUT_SHORT = 6,  /* an output buffer is shorter than what would be written */
-    HAYTHAW_LIST_UNEVEN = 7,   /* the list's length is not a multiple of 4 */
-    HAYTHAW_KIND_UNKNOWN = 8,  /* an AVC444 payload is of kind 3 */
+    HAYTHAW_LIST_UNEVEN = 7,   /* a list's length is not a multiple of 4, or its pairs are not two bytes for each rectangle */
+    HAYTHAW_KIND_UNKNOWN = 8,  /* an AVC444 payload is of kind 3, or is to be written with a kind above 2 */
     HAYTHAW_PAYLOAD_SHORT = 9, /* an AVC444 payload is below 4 bytes, or its size runs past it */
-    HAYTHAW_STREAM_SHORT = 10  /* the count, a rectangle or a pair of a stream runs past that stream */
+    HAYTHAW_STREAM_SHORT = 10, /* the count, a rectangle or a pair of a stream runs past that stream */
+    HAYTHAW_STREAM_LONG = 11   /* a payload's first stream would be 2^30 bytes or longer, or a count would not fit in 32 bits */
 };
 
 /* A number and how many elements were written: bytes or, where the output is of uint16_t, numbers of 16 bits. In a refusal the
@@ -241,7 +242,7 @@ haythaw_answer haythaw_view_to_rgba(uint16_t view_width, uint16_t view_height, s
                                     const uint8_t *view_y, size_t view_y_count, const uint8_t *view_u, size_t view_u_count,
                                     const uint8_t *view_v, size_t view_v_count, uint8_t *out, size_t out_count);
 
-/* ---- The AVC444 payload ----
+/* ---- The AVC444 payload, read ----
  *
  * In kind 0 the luma stream is the `size` bytes after the first number, and the chroma stream is what follows it. In kinds 1 and 2
  * the one stream runs to the payload's end, and the size is not used beyond the test that it does not run past the payload. The
@@ -270,6 +271,23 @@ haythaw_pair haythaw_avc444_chroma_pair(const uint8_t *payload, size_t payload_c
  * that is not carried. Write the first count numbers of out; numbers after them stay. */
 haythaw_answer haythaw_avc444_luma_rects(const uint8_t *payload, size_t payload_count, uint16_t *out, size_t out_count);
 haythaw_answer haythaw_avc444_chroma_rects(const uint8_t *payload, size_t payload_count, uint16_t *out, size_t out_count);
+
+/* ---- The AVC444 payload, written ---- */
+
+/* The payload of a kind: 0 luma and chroma, 1 luma alone, 2 chroma alone. A stream that the kind carries is put together from a
+ * list, a quantiser byte and a quality byte for each rectangle of the list, and H.264 bytes. The parts of a stream that is not
+ * carried are ignored, whatever they are. The payload has 4 bytes, and for each stream that is carried 4 + 2 x rects_count +
+ * pairs_count + data_count; the size in it is the one that the standard wants. The calls above read it, and answer the same parts.
+ * Refuses in this order: 8 when the kind is above 2; 7 when a list that is carried is not in fours, or its pairs_count is not 2 for
+ * each rectangle; 11 when the first stream that is carried, its count, rectangles and pairs included, is 2^30 bytes or longer, or a
+ * list that is carried has 2^32 rectangles or more; then 6. The second stream of kind 0 may have more than 2^30 bytes.
+ * Answers 0, 8, 7, 11 or 6; the count is the payload's bytes. Writes the first count bytes of out; bytes after them stay. */
+haythaw_answer haythaw_avc444_write(uint32_t kind, const uint16_t *luma_rects, size_t luma_rects_count,
+                                    const uint8_t *luma_pairs, size_t luma_pairs_count,
+                                    const uint8_t *luma_data, size_t luma_data_count,
+                                    const uint16_t *chroma_rects, size_t chroma_rects_count,
+                                    const uint8_t *chroma_pairs, size_t chroma_pairs_count,
+                                    const uint8_t *chroma_data, size_t chroma_data_count, uint8_t *out, size_t out_count);
 
 /* ---- The form of an H.264 payload ---- */
 
