@@ -18,7 +18,7 @@ trap 'rm -rf "$made"' EXIT
 strict=(-std=c99 -Wall -Wextra -Wpedantic -Werror -O1 -g)
 ran=() left=()
 
-# Runs a test whose last line has to end in ' 0 wrong', and shows that line; all that it said where it fails.
+# Runs a test whose last line has to end in ' 0 wrong', and shows what it left out; all that it said where it fails.
 passes() { # NAME WORDS...
     local name=$1
     shift
@@ -28,6 +28,7 @@ passes() { # NAME WORDS...
         exit 1
     fi
     ran+=("$name")
+    sed -n "s/^c: left out: /c: left out ($name): /p" "$made/said"
 }
 
 cc "${strict[@]}" bind/c/test.c "$library" -o "$made/test"

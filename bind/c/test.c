@@ -1,15 +1,17 @@
 /* The C boundary: every call of haythaw.h, used well and badly. tests/c.sh compiles and runs it.
  *
  * What an answer has to be is worked out here, by hand or by a few lines that say the rule again; nothing was taken from what the
- * library answered. Each buffer is exactly as long as the call is told, next to memory that traps (test/lend.h). The last line is
- * `c: N checks, 0 wrong`, and the status is 1 where one is wrong. */
+ * library answered. Each buffer is exactly as long as the call is told, next to memory that traps (test/lend.h). A line says what was
+ * left out, where something was. The last line is `c: N checks, 0 wrong`, and the status is 1 where one is wrong. */
 #define _DEFAULT_SOURCE
 #include <signal.h>
 
 #include "test/by_hand.h"
+#include "test/far.h"
 #include "test/lengths.h"
 #include "test/sizes.h"
 #include "test/wire.h"
+#include "test/write.h"
 
 /* One function of each result type, before anything else: a result that this machine returns in another way than the library does
  * would be wrong here. */
@@ -99,6 +101,12 @@ int main(int words, char **word)
     for (size_t k = 0; k < sizeof traps / sizeof *traps; k++)
         signal(traps[k], trapped);
     each_result_type();
+    far_addresses();
+    refused_far();
+    if (words > 1)
+        left_out("a stream of 2^30 - 1 bytes written, for want of time");
+    else
+        written_far();
     for (int way = words > 1 ? ON_HEAP : AT_END; way < PLACES; way++) {
         place = (enum place)way;
         sizes_by_hand();
@@ -116,6 +124,11 @@ int main(int words, char **word)
         parts_by_hand();
         quantisers();
         prefixes();
+        written_by_hand();
+        written_sizes();
+        written_lengths();
+        written_from_one();
+        ignored_by_hand();
         for (int call = NEW; call < CALLS; call++)
             if (needs[call].used > 0)
                 lengths_of((enum call)call);

@@ -7,19 +7,23 @@
 
 enum call {
     NEW, FROM_RGBA, TO_RGBA, MAIN, AUX_V1, AUX_V2, SPLIT_V1, SPLIT_V2, VIEW, LUMA_ROW, U_ROW, V_ROW, VIEW_TO_RGBA, IS_AVC, ANNEX_B,
-    READ, LUMA_RECTANGLE, CHROMA_RECTANGLE, LUMA_PAIR, CHROMA_PAIR, LUMA_RECTS, CHROMA_RECTS, CALLS
+    READ, LUMA_RECTANGLE, CHROMA_RECTANGLE, LUMA_PAIR, CHROMA_PAIR, LUMA_RECTS, CHROMA_RECTS, WRITE, CALLS
 };
 static const char *const call_names[CALLS] = {
     "new", "from_rgba", "to_rgba", "apply_main_view", "apply_auxiliary_v1", "apply_auxiliary_v2", "split_v1", "split_v2",
     "view", "luma_row", "u_row", "v_row", "view_to_rgba", "is_avc_format", "avc_to_annex_b", "avc444_read", "avc444_luma_rectangle",
-    "avc444_chroma_rectangle", "avc444_luma_pair", "avc444_chroma_pair", "avc444_luma_rects", "avc444_chroma_rects"};
+    "avc444_chroma_rectangle", "avc444_luma_pair", "avc444_chroma_pair", "avc444_luma_rects", "avc444_chroma_rects",
+    "avc444_write"};
 
-/* NUMBERS is the output of the two calls that write numbers of 16 bits. */
+/* NUMBERS is the output of the two calls that write numbers of 16 bits. L_ and C_ are the parts of the luma and of the chroma stream
+ * that a payload is written from. */
 enum slice {
-    Y, U, V, RGBA, RECTS, VIEW_Y, VIEW_U, VIEW_V, OUT, DATA, MAIN_Y, MAIN_U, MAIN_V, AUX_Y, AUX_U, AUX_V, PAYLOAD, NUMBERS, SLICES
+    Y, U, V, RGBA, RECTS, VIEW_Y, VIEW_U, VIEW_V, OUT, DATA, MAIN_Y, MAIN_U, MAIN_V, AUX_Y, AUX_U, AUX_V, PAYLOAD, NUMBERS,
+    L_RECTS, L_PAIRS, L_DATA, C_RECTS, C_PAIRS, C_DATA, SLICES
 };
 static const char *const slice_names[SLICES] = {"y", "u", "v", "rgba", "rects", "view_y", "view_u", "view_v", "out", "data",
-                                                "main_y", "main_u", "main_v", "aux_y", "aux_u", "aux_v", "payload", "out"};
+                                                "main_y", "main_u", "main_v", "aux_y", "aux_u", "aux_v", "payload", "out",
+                                                "luma_rects", "luma_pairs", "luma_data", "chroma_rects", "chroma_pairs", "chroma_data"};
 
 typedef struct {
     uint16_t width, height;                 /* of the picture */
@@ -27,6 +31,7 @@ typedef struct {
     uint16_t view_width, view_height;
     size_t luma_stride, chroma_stride, row; /* of the view */
     size_t i;                               /* which rectangle or pair of a stream */
+    uint32_t kind;                          /* of the payload to be written */
     void *at[SLICES];
     size_t count[SLICES];
 } Args;
@@ -48,6 +53,7 @@ typedef struct {
 #define PICTURE a->width, a->height, LENT(Y), LENT(U), LENT(V)
 #define A_VIEW \
     a->view_width, a->view_height, a->luma_stride, a->chroma_stride, LENT(VIEW_Y), LENT(VIEW_U), LENT(VIEW_V)
+#define BOTH_STREAMS LENT(L_RECTS), LENT(L_PAIRS), LENT(L_DATA), LENT(C_RECTS), LENT(C_PAIRS), LENT(C_DATA)
 #define BOTH_VIEWS LENT(MAIN_Y), LENT(MAIN_U), LENT(MAIN_V), LENT(AUX_Y), LENT(AUX_U), LENT(AUX_V)
 
 static Result of_number(uint32_t number)
@@ -146,6 +152,7 @@ static Result run(enum call call, const Args *a)
     case CHROMA_PAIR: return of_pair(haythaw_avc444_chroma_pair(LENT(PAYLOAD), a->i));
     case LUMA_RECTS: return of_answer(haythaw_avc444_luma_rects(LENT(PAYLOAD), LENT(NUMBERS)));
     case CHROMA_RECTS: return of_answer(haythaw_avc444_chroma_rects(LENT(PAYLOAD), LENT(NUMBERS)));
+    case WRITE: return of_answer(haythaw_avc444_write(a->kind, BOTH_STREAMS, LENT(OUT)));
     case CALLS: break;
     }
     return of_number(UINT32_MAX);
