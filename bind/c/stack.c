@@ -48,12 +48,13 @@ ALONE(do_luma_pair, haythaw_avc444_luma_pair(LENT(PAYLOAD), a->i))
 ALONE(do_chroma_pair, haythaw_avc444_chroma_pair(LENT(PAYLOAD), a->i))
 ALONE(do_luma_rects, haythaw_avc444_luma_rects(LENT(PAYLOAD), LENT(NUMBERS)))
 ALONE(do_chroma_rects, haythaw_avc444_chroma_rects(LENT(PAYLOAD), LENT(NUMBERS)))
+ALONE(do_write, haythaw_avc444_write(a->kind, BOTH_STREAMS, LENT(OUT)))
 ALONE(do_allocation_size, haythaw_allocation_size(a->width, a->height))
 
 static void (*const alone[CALLS + 1])(const Args *) = {
     do_new, do_from_rgba, do_to_rgba, do_main, do_aux_v1, do_aux_v2, do_split_v1, do_split_v2, do_view,
     do_luma_row, do_u_row, do_v_row, do_view_to_rgba, do_is_avc, do_annex_b, do_read, do_luma_rectangle, do_chroma_rectangle,
-    do_luma_pair, do_chroma_pair, do_luma_rects, do_chroma_rects, do_allocation_size};
+    do_luma_pair, do_chroma_pair, do_luma_rects, do_chroma_rects, do_write, do_allocation_size};
 
 static void on_its_own_stack(void)
 {
@@ -82,7 +83,8 @@ static void put_u32(uint8_t *bytes, uint32_t number)
         bytes[k] = (uint8_t)(number >> 8 * k);
 }
 
-/* An AVC444 payload goes with a picture: two streams, each with as many rectangles as the picture has columns, all zero. */
+/* An AVC444 payload goes with a picture: two streams, each with as many rectangles as the picture has columns, all zero. So does what
+ * one is written from, with as many H.264 bytes as a plane has. */
 static Args of_size(uint16_t width, uint16_t height)
 {
     static const uint16_t rects[8] = {1, 1, 65535, 65535, 0, 0, 7, 7};
@@ -107,6 +109,8 @@ static Args of_size(uint16_t width, uint16_t height)
     put_u32(payload + 4 + stream, width);
     a.count[PAYLOAD] = 4 + 2 * stream;
     a.count[NUMBERS] /= 2;
+    a.count[L_RECTS] = a.count[C_RECTS] = 4u * width;
+    a.count[L_PAIRS] = a.count[C_PAIRS] = 2u * width;
     a.i = width - 1u;
     return a;
 }
