@@ -1,8 +1,9 @@
-//! The AVC444 payload: which streams it carries, and their parts as slices of it.
+//! The AVC444 payload: which streams it carries, and their parts as slices of it; and the payload written from such parts.
 //!
 //! `RFX_AVC444_BITMAP_STREAM` (MS-RDPEGFX 2.2.4.5; V2 has the same frame) is a number with a size and a kind, then one or two AVC420
 //! streams. A stream is a count, that many rectangles, that many pairs of quantiser and quality, and its H.264 bytes. All numbers are
-//! little-endian. The library finds every part and reads every number; nothing is copied or allocated.
+//! little-endian. The library finds every part and reads every number; nothing is copied or allocated. It also writes every byte of a
+//! payload, into a slice that the caller lends or into a `Vec` ([`PayloadParts`]).
 //!
 //! This is not the original's `Avc444BitmapStream`: it borrows where that one collects, and has names of its own.
 
@@ -11,7 +12,7 @@ use core::iter::FusedIterator;
 use core::ops::Range;
 
 use crate::geometry::ExclusiveRectangle;
-use crate::library::{self, Pair, Places, Rectangle};
+use crate::library::{self, Given, Pair, Places, Rectangle};
 
 /// An AVC444 payload that was read: its kind, and the streams that it carries.
 ///
@@ -271,6 +272,22 @@ pub struct QuantQuality {
     pub quality: u8,
 }
 
+impl QuantQuality {
+    /// The two bytes that a payload has for it, quantiser and quality, or `None` where `value` is above 63 and has no room there.
+    ///
+    /// ```
+    /// use haythaw::avc444_payload::QuantQuality;
+    ///
+    /// let pair = QuantQuality { value: 22, reserved: false, progressive: true, quality: 100 };
+    /// assert_eq!(pair.to_bytes(), Some([0x96, 100]));
+    /// assert_eq!(QuantQuality { value: 64, ..pair }.to_bytes(), None);
+    /// ```
+    pub fn to_bytes(self) -> Option<[u8; 2]> {
+        let flags = u8::from(self.reserved) << 6 | u8::from(self.progressive) << 7;
+        (self.value < 64).then_some([self.value | flags, self.quality])
+    }
+}
+
 /// The rectangles or the pairs of a stream, each read by the library when it is asked for.
 ///
 /// From both ends, and any of them at once with `nth`.
@@ -382,3 +399,212 @@ impl fmt::Display for ReadError {
 }
 
 impl core::error::Error for ReadError {}
+
+/// What a stream is written from. The default has no rectangle and no H.264 byte.
+#[derive(Clone, Copy, Default, PartialEq, Eq)]
+pub struct StreamParts<'a> {
+    /// The rectangles. Any four numbers are one.
+    pub rectangles: &'a [ExclusiveRectangle],
+    /// A quantiser byte and a quality byte for each rectangle; [`QuantQuality::to_bytes`] makes them.
+    pub pairs: &'a [[u8; 2]],
+    /// The H.264 bytes.
+    pub h264: &'a [u8],
+}
+
+impl<'a> StreamParts<'a> {
+    /// As the library takes them, uncopied.
+    fn given(self) -> Given<'a> {
+        Given { rects: library::numbers_of(self.rectangles), pairs: self.pairs.as_flattened(), data: self.h264 }
+    }
+
+    /// The stream's bytes, or `None` where `usize` has no such number.
+    fn size(self) -> Option<usize> {
+        let Given { rects, pairs, data } = self.given();
+        rects.len().checked_mul(2)?.checked_add(4)?.checked_add(pairs.len())?.checked_add(data.len())
+    }
+}
+
+impl fmt::Debug for StreamParts<'_> {
+    fn fmt(&self, f: &mut fmt::Formatter<'_>) -> fmt::Result {
+        f.debug_struct("StreamParts")
+            .field("rectangles", &self.rectangles.len())
+            .field("pairs", &self.pairs.len())
+            .field("h264_len", &self.h264.len())
+            .finish()
+    }
+}
+
+/// What a payload is written from: the streams that it is to carry.
+///
+/// ```
+/// use haythaw::avc444_payload::{Avc444Payload, PayloadParts, StreamParts};
+/// use haythaw::geometry::ExclusiveRectangle;
+///
+/// let rectangles = [ExclusiveRectangle { left: 0, top: 0, right: 64, bottom: 32 }];
+/// let luma = StreamParts { rectangles: &rectangles, pairs: &[[22, 100]], h264: &[0x67, 0x42, 0x1F] };
+/// let chroma = StreamParts { h264: &[0x68, 0xCE], ..StreamParts::default() };
+/// let bytes = PayloadParts::Both { luma, chroma }.write()?;
+/// assert_eq!(
+///     bytes,
+///     [
+///         17, 0, 0, 0, // size and kind
+///         1, 0, 0, 0, 0, 0, 0, 0, 64, 0, 32, 0, 22, 100, 0x67, 0x42, 0x1F, // luma
+///         0, 0, 0, 0, 0x68, 0xCE, // chroma
+///     ]
+/// );
+///
+/// let payload = Avc444Payload::read(&bytes).expect("what was written is read");
+/// assert!(payload.luma().expect("it is carried").rectangles().eq(rectangles));
+/// # Ok::<(), haythaw::avc444_payload::WriteError>(())
+/// ```
+#[derive(Debug, Clone, Copy, PartialEq, Eq)]
+pub enum PayloadParts<'a> {
+    /// Kind 0: luma, then chroma.
+    Both {
+        /// The stream that holds the main view. It has to be shorter than 2^30 bytes.
+        luma: StreamParts<'a>,
+        /// The stream that holds the auxiliary view, of any length.
+        chroma: StreamParts<'a>,
+    },
+    /// Kind 1: luma alone.
+    Luma(StreamParts<'a>),
+    /// Kind 2: chroma alone.
+    Chroma(StreamParts<'a>),
+}
+
+impl PayloadParts<'_> {
+    /// What the payload is to carry.
+    pub fn kind(&self) -> PayloadKind {
+        match self {
+            Self::Both { .. } => PayloadKind::Both,
+            Self::Luma(_) => PayloadKind::Luma,
+            Self::Chroma(_) => PayloadKind::Chroma,
+        }
+    }
+
+    /// How many bytes the payload has, or `None` where `usize` has no such number.
+    ///
+    /// ```
+    /// use haythaw::avc444_payload::{PayloadParts, StreamParts};
+    ///
+    /// let parts = PayloadParts::Luma(StreamParts { h264: &[7; 100], ..StreamParts::default() });
+    /// assert_eq!(parts.size(), Some(108)); // the first number, a count, and the H.264 bytes
+    /// ```
+    pub fn size(&self) -> Option<usize> {
+        match self {
+            Self::Both { luma, chroma } => luma.size()?.checked_add(chroma.size()?)?.checked_add(4),
+            Self::Luma(stream) | Self::Chroma(stream) => stream.size()?.checked_add(4),
+        }
+    }
+
+    /// Writes the payload to the start of `out`, and gives how many bytes that are. What `out` has after them stays.
+    ///
+    /// The size in the payload is the one that the standard wants: the luma stream's bytes, or 0 where luma is not carried.
+    ///
+    /// # Errors
+    ///
+    /// The first of these that holds: [`WriteError::PairsUneven`], [`WriteError::StreamLong`], [`WriteError::OutputShort`]. Then
+    /// nothing is written.
+    ///
+    /// ```
+    /// use haythaw::avc444_payload::{PayloadParts, StreamParts, WriteError};
+    ///
+    /// let mut out = [9; 12];
+    /// let parts = PayloadParts::Chroma(StreamParts { h264: &[0x67, 0x42], ..StreamParts::default() });
+    /// assert_eq!(parts.write_into(&mut out)?, 10);
+    /// assert_eq!(out, [0, 0, 0, 0x80, 0, 0, 0, 0, 0x67, 0x42, 9, 9]);
+    /// assert_eq!(parts.write_into(&mut out[..9]), Err(WriteError::OutputShort));
+    /// # Ok::<(), WriteError>(())
+    /// ```
+    pub fn write_into(&self, out: &mut [u8]) -> Result<usize, WriteError> {
+        let none = StreamParts::default();
+        let (kind, luma, chroma) = match *self {
+            Self::Both { luma, chroma } => (0, luma, chroma),
+            Self::Luma(luma) => (1, luma, none),
+            Self::Chroma(chroma) => (2, none, chroma),
+        };
+        let answer = library::avc444_write(kind, luma.given(), chroma.given(), out);
+        WriteError::of("avc444_write", answer.number)?;
+        Ok(answer.count)
+    }
+
+    /// The payload in a `Vec` of its own, which is made only where it can be written.
+    ///
+    /// # Errors
+    ///
+    /// As for [`write_into`](Self::write_into); [`WriteError::OutputShort`] only where the payload is longer than `usize` has numbers for.
+    ///
+    /// ```
+    /// use haythaw::avc444_payload::{PayloadParts, StreamParts, WriteError};
+    ///
+    /// let parts = StreamParts { h264: &[0x67, 0x42], ..StreamParts::default() };
+    /// assert_eq!(PayloadParts::Luma(parts).write()?, [6, 0, 0, 0x40, 0, 0, 0, 0, 0x67, 0x42]);
+    ///
+    /// let uneven = StreamParts { pairs: &[[22, 100]], ..parts };
+    /// assert_eq!(PayloadParts::Luma(uneven).write(), Err(WriteError::PairsUneven));
+    /// # Ok::<(), WriteError>(())
+    /// ```
+    pub fn write(&self) -> Result<Vec<u8>, WriteError> {
+        // No payload is empty, so that what is not refused otherwise is refused here for want of room.
+        if let Err(error @ (WriteError::PairsUneven | WriteError::StreamLong)) = self.write_into(&mut []) {
+            return Err(error);
+        }
+        let mut out = vec![0; self.size().ok_or(WriteError::OutputShort)?];
+        let count = self.write_into(&mut out)?;
+        assert_eq!(count, out.len(), "haythaw: avc444_write wrote another payload than was counted");
+        Ok(out)
+    }
+}
+
+/// Why a payload was not written.
+///
+/// ```
+/// use haythaw::avc444_payload::{PayloadParts, StreamParts};
+///
+/// let error = PayloadParts::Luma(StreamParts::default()).write_into(&mut [0; 7]).unwrap_err();
+/// assert_eq!((error.number(), error.to_string()), (6, "output shorter than the AVC444 payload".to_owned()));
+/// ```
+#[derive(Debug, Clone, Copy, PartialEq, Eq)]
+#[non_exhaustive]
+pub enum WriteError {
+    /// The output is shorter than the payload.
+    OutputShort,
+    /// A stream has not one pair for each rectangle.
+    PairsUneven,
+    /// The first stream, its count, rectangles and pairs included, is 2^30 bytes or longer, or a stream has 2^32 rectangles or more.
+    StreamLong,
+}
+
+impl WriteError {
+    /// The library's number for it: 6, 7 or 11.
+    pub fn number(self) -> u32 {
+        match self {
+            Self::OutputShort => 6,
+            Self::PairsUneven => 7,
+            Self::StreamLong => 11,
+        }
+    }
+
+    /// Goes on after a call that answered 0.
+    #[track_caller]
+    fn of(call: &str, number: u32) -> Result<(), Self> {
+        let all = [Self::OutputShort, Self::PairsUneven, Self::StreamLong];
+        if let Some(error) = all.into_iter().find(|error| error.number() == number) {
+            return Err(error);
+        }
+        library::done(call, number);
+        Ok(())
+    }
+}
+
+impl fmt::Display for WriteError {
+    fn fmt(&self, f: &mut fmt::Formatter<'_>) -> fmt::Result {
+        f.write_str(match self {
+            Self::OutputShort => "output shorter than the AVC444 payload",
+            Self::PairsUneven => "AVC444 stream without one pair for each rectangle",
+            Self::StreamLong => "first AVC444 stream of 2^30 bytes or more, or 2^32 rectangles or more",
+        })
+    }
+}
+
+impl core::error::Error for WriteError {}

@@ -15,7 +15,9 @@ pub mod pdu;
 #[doc(no_inline)]
 pub use crate::{
     avc444::{Avc444Layout, Yuv444Frame},
-    avc444_payload::{Avc444Payload, PayloadKind, QuantQuality, ReadError, Stream},
+    avc444_payload::{
+        Avc444Payload, PayloadKind, PayloadParts, QuantQuality, ReadError, Stream, StreamParts, WriteError,
+    },
     decode::{DecodedFrame, DecoderError, DecoderResult, Yuv420Frame},
     geometry::ExclusiveRectangle,
     pdu::{avc_to_annex_b_into, is_avc_format},

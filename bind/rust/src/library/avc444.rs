@@ -98,3 +98,56 @@ copying! {
     /// The rectangles of the chroma stream, four numbers each. 0, 9, 8, 10 or 6.
     avc444_chroma_rects is haythaw_avc444_chroma_rects;
 }
+
+/// What a stream is written from: a list of rectangles in fours, two bytes for each rectangle, and its H.264 bytes.
+#[derive(Clone, Copy)]
+pub struct Given<'a> {
+    pub rects: &'a [u16],
+    pub pairs: &'a [u8],
+    pub data: &'a [u8],
+}
+
+// The name and the types are those of crates/haythaw.
+unsafe extern "C" {
+    fn haythaw_avc444_write(
+        kind: u32,
+        luma_rects: *const u16,
+        luma_rects_count: usize,
+        luma_pairs: *const u8,
+        luma_pairs_count: usize,
+        luma_data: *const u8,
+        luma_data_count: usize,
+        chroma_rects: *const u16,
+        chroma_rects_count: usize,
+        chroma_pairs: *const u8,
+        chroma_pairs_count: usize,
+        chroma_data: *const u8,
+        chroma_data_count: usize,
+        out: *mut u8,
+        out_count: usize,
+    ) -> Answer;
+}
+
+/// The payload of a kind. 0, 8, 7, 11 or 6.
+pub fn avc444_write(kind: u32, luma: Given<'_>, chroma: Given<'_>, out: &mut [u8]) -> Answer {
+    // SAFETY: each pointer and count are of one slice, and the one that is written is borrowed for that alone.
+    unsafe {
+        haythaw_avc444_write(
+            kind,
+            luma.rects.as_ptr(),
+            luma.rects.len(),
+            luma.pairs.as_ptr(),
+            luma.pairs.len(),
+            luma.data.as_ptr(),
+            luma.data.len(),
+            chroma.rects.as_ptr(),
+            chroma.rects.len(),
+            chroma.pairs.as_ptr(),
+            chroma.pairs.len(),
+            chroma.data.as_ptr(),
+            chroma.data.len(),
+            out.as_mut_ptr(),
+            out.len(),
+        )
+    }
+}

@@ -17,7 +17,7 @@ mod view;
 
 pub use avc444::{
     avc444_chroma_pair, avc444_chroma_rectangle, avc444_chroma_rects, avc444_luma_pair, avc444_luma_rectangle,
-    avc444_luma_rects, avc444_read, Pair, Places, Rectangle,
+    avc444_luma_rects, avc444_read, avc444_write, Given, Pair, Places, Rectangle,
 };
 pub use combine::{apply_auxiliary_v1, apply_auxiliary_v2, apply_main_view, numbers_of};
 pub use convert::{to_rgba, view_to_rgba};
