@@ -17,11 +17,10 @@
 #include <stdio.h>
 #include <stdlib.h>
 #include <string.h>
-#include <sys/mman.h>
-#include <sys/wait.h>
 #include <unistd.h>
 
 #include "haythaw.h"
+#include "pages.h"
 #include "run.h"
 #include "wire_reader.h"
 #include "wire_payloads.h"
@@ -60,19 +59,6 @@ static enum reader how;
 static enum call altered = ALTERABLE; /* none */
 static int altered_field;
 static bool quiet;
-
-/* Memory of so many bytes, all 0; only what is written takes place. Null where there is none. */
-static uint8_t *room(size_t bytes)
-{
-    size_t page = (size_t)sysconf(_SC_PAGESIZE);
-    uint8_t *map = mmap(NULL, bytes + 2 * page, PROT_NONE, MAP_PRIVATE | MAP_ANONYMOUS | MAP_NORESERVE, -1, 0);
-    if (map == MAP_FAILED || mprotect(map + page, bytes, PROT_READ | PROT_WRITE)) {
-        perror("wire: no memory for a buffer");
-        return NULL;
-    }
-    madvise(map + page, bytes, MADV_NOHUGEPAGE);
-    return map + page;
-}
 
 static void same(bool holds, const char *what, const char *which, uint64_t i)
 {
@@ -241,19 +227,6 @@ static bool noticed(void)
     differences = 0;
     for (uint64_t k = 0; k < ROUND && !differences; k += 61) run(1, k);
     return differences > 0;
-}
-
-/* Whether a touch of a byte ends a process. */
-static bool traps(volatile uint8_t *byte)
-{
-    int status = 0;
-    pid_t child = fork();
-    if (child == 0) {
-        signal(SIGSEGV, SIG_DFL);
-        signal(SIGBUS, SIG_DFL);
-        _exit(*byte == *byte ? 0 : 1);
-    }
-    return child > 0 && waitpid(child, &status, 0) == child && WIFSIGNALED(status);
 }
 
 static int self_test(void)

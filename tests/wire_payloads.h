@@ -1,4 +1,4 @@
-/* The payloads of wire.c, each made of the seed and its number. A round has six kinds of them, and the next round has others:
+/* The payloads of wire.c and write.c, each made of the seed and its number. A round has six kinds of them, and the next round has others:
 
      prefixes      every prefix of good payloads, of 0 bytes to the whole
      changes       every change of one byte of good payloads, to each of the 255 other values

@@ -1,5 +1,5 @@
-/* An AVC444 payload read by request E1's words alone, for wire.c. A position moves from the front to the back, one number after the other,
-   and stops at the first number that its stream does not have: no length is ever worked out from a count.
+/* An AVC444 payload read by request E1's words alone, for wire.c and write.c. A position moves from the front to the back, one
+   number after the other, and stops at the first number that its stream does not have: no length is ever worked out from a count.
 
    read_payload() answers what the words say. In a refusal everything but the number is 0. A reader other than AS_ASKED has one mistake,
    and the self-test shows that the mistake is seen. */
