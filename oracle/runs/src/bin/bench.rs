@@ -5,14 +5,14 @@ use std::process::{Command, ExitCode};
 use std::time::Duration;
 
 use runs::bench::{Timed, Weighing};
-use runs::suites::{avc444_payload, BENCHES, PAYLOADS, WEIGHINGS};
+use runs::suites::{avc444_payload, BENCHES, PAYLOADS, WEIGHINGS, WRITES};
 use runs::table::aligned;
 
 const ROUNDS: u32 = 41;
 
 fn main() -> ExitCode {
     let mut names: Vec<&str> = BENCHES.iter().map(|bench| bench.name).collect();
-    names.extend(PAYLOADS.iter().map(|weighing| weighing.name));
+    names.extend(PAYLOADS.iter().chain(WRITES).map(|weighing| weighing.name));
     names.dedup();
     let only = match std::env::args().skip(1).collect::<Vec<_>>().as_slice() {
         [] => None,
@@ -41,6 +41,10 @@ fn main() -> ExitCode {
             avc444_payload::INPUT
         ),
         &weighed(PAYLOADS, wanted),
+    );
+    show(
+        "\nthe writer of the AVC444 payload against plain copies, in nanoseconds a payload; ratio: first / second\n",
+        &weighed(WRITES, wanted),
     );
     ExitCode::SUCCESS
 }

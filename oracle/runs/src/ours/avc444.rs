@@ -1,4 +1,4 @@
-//! The AVC444 payload: what it carries and where, and the rectangles of its luma stream.
+//! The AVC444 payload: what it carries and where, the rectangles of its luma stream, and the payload written.
 
 use super::Answer;
 
@@ -35,11 +35,36 @@ pub struct Rectangle {
     pub bottom: u16,
 }
 
+/// What is lent for a stream that is to be written.
+#[derive(Debug, Clone, Copy)]
+pub struct Parts<'a> {
+    pub rects: &'a [u16],
+    pub pairs: &'a [u8],
+    pub data: &'a [u8],
+}
+
 // The names and the types are those of crates/haythaw.
 unsafe extern "C" {
     fn haythaw_avc444_read(payload: *const u8, payload_count: usize) -> Avc444;
     fn haythaw_avc444_luma_rectangle(payload: *const u8, payload_count: usize, i: usize) -> Rectangle;
     fn haythaw_avc444_luma_rects(payload: *const u8, payload_count: usize, out: *mut u16, out_count: usize) -> Answer;
+    fn haythaw_avc444_write(
+        kind: u32,
+        luma_rects: *const u16,
+        luma_rects_count: usize,
+        luma_pairs: *const u8,
+        luma_pairs_count: usize,
+        luma_data: *const u8,
+        luma_data_count: usize,
+        chroma_rects: *const u16,
+        chroma_rects_count: usize,
+        chroma_pairs: *const u8,
+        chroma_pairs_count: usize,
+        chroma_data: *const u8,
+        chroma_data_count: usize,
+        out: *mut u8,
+        out_count: usize,
+    ) -> Answer;
 }
 
 /// What a payload carries.
@@ -62,4 +87,30 @@ pub fn avc444_luma_rects(payload: &[u8], out: &mut [u16]) -> Answer {
     // SAFETY: the call reads the first slice and writes the second alone, is proved for every content and length,
     // and the two do not overlap.
     unsafe { haythaw_avc444_luma_rects(payload.as_ptr(), payload.len(), out.as_mut_ptr(), out.len()) }
+}
+
+/// The payload of a kind and its streams.
+#[inline]
+pub fn avc444_write(kind: u32, luma: Parts<'_>, chroma: Parts<'_>, out: &mut [u8]) -> Answer {
+    // SAFETY: the call reads the six slices of the streams and writes the last alone, is proved for every kind, content and length,
+    // and the last overlaps no other.
+    unsafe {
+        haythaw_avc444_write(
+            kind,
+            luma.rects.as_ptr(),
+            luma.rects.len(),
+            luma.pairs.as_ptr(),
+            luma.pairs.len(),
+            luma.data.as_ptr(),
+            luma.data.len(),
+            chroma.rects.as_ptr(),
+            chroma.rects.len(),
+            chroma.pairs.as_ptr(),
+            chroma.pairs.len(),
+            chroma.data.as_ptr(),
+            chroma.data.len(),
+            out.as_mut_ptr(),
+            out.len(),
+        )
+    }
 }

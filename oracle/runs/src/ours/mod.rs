@@ -13,7 +13,9 @@ mod split;
 mod view;
 
 pub use answer::Answer;
-pub use avc444::{avc444_luma_rectangle, avc444_luma_rects, avc444_read, Avc444, Rectangle, Stream};
+pub use avc444::{
+    avc444_luma_rectangle, avc444_luma_rects, avc444_read, avc444_write, Avc444, Parts, Rectangle, Stream,
+};
 pub use colour::{average, filter, forward, reverse};
 pub use combine::{apply_auxiliary_v1, apply_auxiliary_v2, apply_main_view};
 pub use convert::{to_rgba, view_to_rgba};

@@ -4,6 +4,7 @@ mod allocation_size;
 mod annex_b;
 mod apply;
 pub mod avc444_payload;
+mod avc444_write;
 mod avc_format;
 mod average;
 mod bytes;
@@ -109,6 +110,9 @@ pub const PAYLOADS: &[Weighing] = &[
     avc444_payload::RECTANGLE,
     avc444_payload::RECTANGLE_WORDS,
 ];
+
+/// The writer of the AVC444 payload against plain copies.
+pub const WRITES: &[Weighing] = &[avc444_write::DATA, avc444_write::RECTS, avc444_write::SMALL];
 
 /// The suite of a name.
 pub fn named(name: &str) -> Result<&'static Suite, String> {
