@@ -8,44 +8,6 @@ mod answers;
 
 use libc::STDIN_FILENO;
 use wire_parts::Which;
-ghost use Prim.Native.Nat.{_*_, _≤_, _<_};
-ghost use lib.ListN.{length};
-
-// Where a byte stands next, from a place on; the end where it does not.
-fn find(s: &[u8], at: usize, byte: u8) -> usize
-    requires { ⌜ at ≤ length (now s) ⌝ }
-    ensures { λ r. ⌜ (at ≤ r) × (r ≤ length (now (s .entry))) ⌝ }
-{
-    let mut i = at;
-    while i < s.len() {
-        if s[i] == byte {
-            return i;
-        }
-        i += 1;
-    }
-    i
-}
-
-fn digit(c: u8) -> u8
-    ensures { λ r. ⌜ r < 16 ⌝ }
-{
-    match c {
-        b'0'..=b'9' => c - b'0',
-        b'a'..=b'f' => c - b'a' + 10,
-        _ => 0,
-    }
-}
-
-// The first n bytes of out become those that are written in text, each as two digits behind a space or a tab.
-fn decode(text: &[u8], out: &mut [u8], n: usize)
-    requires { ⌜ (3 * n ≤ length (now text)) × (n ≤ length (now out)) ⌝ }
-{
-    let mut k = 0;
-    while k < n {
-        out[k] = 16 * digit(text[3 * k + 1]) + digit(text[3 * k + 2]);
-        k += 1;
-    }
-}
 
 fn stream(which: u8) -> Which {
     if which == 0 {
@@ -90,20 +52,19 @@ fn run(s: &[u8], before: &[u8]) {
 fn case(text: &[u8]) {
     let mut s = [0u8; 64];
     let mut before = [0u8; 64];
-    let tab = find(text, 0, b'\t');
-    let n = lent::least((text.len() - tab) / 3, 64);
-    decode(&text[tab..], &mut s, n);
-    decode(&text[tab..], &mut before, n);
+    let tab = lines::find(text, 0, b'\t');
+    let n = lines::bytes(&text[tab..], &mut s);
+    let m = lines::bytes(&text[tab..], &mut before);
     say::text(&text[0..tab]);
     say::text(b": ");
-    run(&s[0..n], &before[0..n]);
+    run(&s[..n], &before[..m]);
     say::text(b"\n");
 }
 
 fn cases(s: &[u8]) {
     let mut at = 0;
     while at < s.len() {
-        let end = find(s, at, b'\n');
+        let end = lines::find(s, at, b'\n');
         case(&s[at..end]);
         if end == s.len() {
             return;

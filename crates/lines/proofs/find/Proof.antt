@@ -1,9 +1,9 @@
--- `refusals_wire::find` meets its contract: the place is from the start to the end, and what is left of the bytes falls. Assumes nothing.
+-- `lines::find` meets its contract: the place is from the start to the end, and what is left of the bytes falls. Assumes nothing.
 use Prim.Native.Nat.{_-_, _≤_}
 use borrow.Author.Needs.{needs}
 use lib.ListN.{length}
-use Rattle.refusals_wire.proofs.find.Statement.{statement}
-use Rattle.refusals_wire.proofs.find.Tie as tie
+use Rattle.lines.proofs.find.Statement.{statement}
+use Rattle.lines.proofs.find.Tie as tie
 
 abbrev Inv-loop : tie.InvT-loop
 Inv-loop s at byte i₀ i = (at ≤ i) × (i ≤ length s)
