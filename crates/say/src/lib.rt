@@ -31,6 +31,20 @@ pub fn numbers(s: &[u16], before: u16) {
     }
 }
 
+fn byte(b: u8) {
+    text(b" ");
+    io::print_hex(STDOUT_FILENO, b as u64, 2);
+}
+
+// All bytes in hexadecimal, each with a space in front.
+pub fn bytes(s: &[u8]) {
+    let mut i = 0;
+    while i < s.len() {
+        byte(s[i]);
+        i += 1;
+    }
+}
+
 // The Adler-32 of all bytes.
 pub fn checksum(s: &[u8]) {
     io::print_hex(STDOUT_FILENO, replay::checksum(s) as u64, 8);
