@@ -464,7 +464,7 @@ int main(int argc, char **argv)
     signal(SIGSEGV, trapped);
     signal(SIGBUS, trapped);
     if (argc == 2 && !strcmp(argv[1], "--self-test")) return self_test();
-    const Options options = options_of("write", 1000000, argc, argv);
+    const Options options = options_of("write", 5000000, argc, argv);
     walk("write", "cases", options, &differences, run);
     return summary();
 }

@@ -192,3 +192,7 @@ module _ (kind : ℕ) (l c : Given) (out : List ℕ) {w : Answer} {after : List 
           back = λ z. subst (λ (s : List ℕ). Back s r kind l c) (sym (written kind l c out o zero-number))
               (subst (λ (a : Avc444). Back (payloadOf kind l c ++ drop (length (payloadOf kind l c)) out) a kind l c) (sym is) (written-read kind l c (length out) zero-number _));
         }
+
+-- the one way in which it ends
+pub write-read-unique : (kind : ℕ) (l c : Given) (out : List ℕ) (r q : Avc444) (x y : List ℕ) → WriteReadEnds kind l c out r x → WriteReadEnds kind l c out q y → (r ≡ q) × (x ≡ y)
+write-read-unique kind l c out r q x y a b = let e = a .ends .buffers in let f = b .ends .buffers in (a .ends .answer ∙ sym (b .ends .answer), cc)

@@ -10,6 +10,7 @@ use Rattle.lent.specs.declared.Answer.{Answer}
 use Rattle.lent.specs.Outcome.{answerOf, lentAfter}
 use Rattle.lent.proofs.Ends.{answer-done, lent-done}
 use Rattle.lent.proofs.Outcome.{outcome-unique}
+use Rattle.wire_number.specs.Number.{writeNumberOf}
 use Rattle.wire_write.specs.Writing.{Given, payloadOf, givenNumberOf, WriteOutcome}
 
 module _ (kind : ℕ) (l c : Given) where
@@ -44,3 +45,12 @@ module _ (kind : ℕ) (l c : Given) where
 
       pub count-fits : r .count ≤ length after
       count-fits = let e = count-is in let f = ap length written in let g = length-append payload (drop (length payload) out) in omega arith
+
+-- the parts of a stream that is not carried have no effect
+pub chroma-ignored : (l c d : Given) (n : ℕ) → (givenNumberOf 1 l c n ≡ givenNumberOf 1 l d n) × (payloadOf 1 l c ≡ payloadOf 1 l d)
+unfolding writeNumberOf payloadOf
+chroma-ignored l c d n = (refl, refl)
+
+pub luma-ignored : (k l c : Given) (n : ℕ) → (givenNumberOf 2 k c n ≡ givenNumberOf 2 l c n) × (payloadOf 2 k c ≡ payloadOf 2 l c)
+unfolding writeNumberOf payloadOf
+luma-ignored k l c n = (refl, refl)
