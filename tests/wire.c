@@ -19,30 +19,27 @@
 #include <string.h>
 #include <unistd.h>
 
+#define PROGRAM "wire"
+#define CASES_ARE "payloads"
 #include "haythaw.h"
 #include "pages.h"
 #include "run.h"
 #include "wire_reader.h"
 #include "wire_payloads.h"
+#include "tally.h"
 
 enum { AROUND = 8, PLACES = 11, ROOM = 2 * LONGEST };
 
-/* What the self-test alters: a field of every answer of a call, or bytes. */
 enum call { READ, RECTANGLE, PAIR, COPY, PAYLOAD, WRITTEN, AFTER, BEFORE, ALTERABLE };
-enum { MOST_FIELDS = 12 };
-static const struct { const char *name; int count; size_t fields[MOST_FIELDS]; } alterable[ALTERABLE] = {
-    {"an answer of read", 12,
-     {offsetof(haythaw_avc444, number), offsetof(haythaw_avc444, kind), offsetof(haythaw_avc444, luma.count),
-      offsetof(haythaw_avc444, luma.rects), offsetof(haythaw_avc444, luma.pairs), offsetof(haythaw_avc444, luma.data),
-      offsetof(haythaw_avc444, luma.length), offsetof(haythaw_avc444, chroma.count), offsetof(haythaw_avc444, chroma.rects),
-      offsetof(haythaw_avc444, chroma.pairs), offsetof(haythaw_avc444, chroma.data), offsetof(haythaw_avc444, chroma.length)}},
+static const Alterable alterable[ALTERABLE] = {
+    AN_ANSWER_OF_READ,
     {"a rectangle", 6,
      {offsetof(haythaw_rectangle, number), offsetof(haythaw_rectangle, present), offsetof(haythaw_rectangle, left),
       offsetof(haythaw_rectangle, top), offsetof(haythaw_rectangle, right), offsetof(haythaw_rectangle, bottom)}},
     {"a pair", 6,
      {offsetof(haythaw_pair, number), offsetof(haythaw_pair, present), offsetof(haythaw_pair, value), offsetof(haythaw_pair, reserved),
       offsetof(haythaw_pair, progressive), offsetof(haythaw_pair, quality)}},
-    {"a copy's answer", 2, {offsetof(haythaw_answer, number), offsetof(haythaw_answer, count)}},
+    AN_ANSWER("a copy's answer"),
     {"a byte of the payload", 1, {0}},
     {"a number written", 1, {0}},
     {"a number after those written", 1, {0}},
@@ -53,24 +50,12 @@ static Reading expected;
 static uint8_t *lent, *output, *far; /* ROOM bytes each, and FAR, between pages that nothing may touch */
 static const uint8_t *at;            /* where the payload lies */
 static const size_t FAR = (size_t)1 << 33;
-static uint64_t seed = 1, number, smallest_number;
-static uint64_t compared, differences, differing, made[FAMILIES], answered[11];
+static uint64_t made[FAMILIES], answered[11];
 static enum reader how;
-static enum call altered = ALTERABLE; /* none */
-static int altered_field;
-static bool quiet;
 
-static void same(bool holds, const char *what, const char *which, uint64_t i)
+static int say_case(char *to, size_t room)
 {
-    if (holds) return;
-    if (differences++ < 5 && !quiet)
-        printf("wire: --seed %llu --only %llu: %zu bytes: %s%s differs (%llu)\n", (unsigned long long)seed, (unsigned long long)number,
-               payload.length, which, what, (unsigned long long)i);
-}
-
-static void alter(enum call call, void *answer)
-{
-    if (call == altered) ((uint8_t *)answer)[alterable[call].fields[altered_field]] ^= 1;
+    return snprintf(to, room, "%zu bytes", payload.length);
 }
 
 /* The byte that a truth value is, which has to be 0 or 1. */
@@ -79,12 +64,6 @@ static uint8_t byte_of(const bool *truth)
     uint8_t byte;
     memcpy(&byte, truth, 1);
     return byte;
-}
-
-static void same_stream(haythaw_stream s, const Part *p, const char *which)
-{
-    same(s.count == p->count && s.rects == p->rects && s.pairs == p->pairs && s.data == p->data && s.length == p->length,
-         "stream", which, s.count);
 }
 
 typedef haythaw_rectangle Rectangle(const uint8_t *, size_t, size_t);
@@ -97,7 +76,7 @@ static void same_rectangle(Rectangle *call, const Part *p, const char *which, si
     const uint16_t *r = i < p->count ? p->rectangle[i] : none;
     haythaw_rectangle got = call(at, payload.length, i);
     compared++;
-    alter(RECTANGLE, &got);
+    alter(&alterable[RECTANGLE], &got);
     same(got.number == expected.number && byte_of(&got.present) == (i < p->count) && got.left == r[0] && got.top == r[1]
              && got.right == r[2] && got.bottom == r[3],
          "rectangle", which, i);
@@ -108,7 +87,7 @@ static void same_pair(Pair *call, const Part *p, const char *which, size_t i)
     bool in = i < p->count;
     haythaw_pair got = call(at, payload.length, i);
     compared++;
-    alter(PAIR, &got);
+    alter(&alterable[PAIR], &got);
     same(got.number == expected.number && byte_of(&got.present) == in && got.value == (in ? p->pair[i].value : 0)
              && byte_of(&got.reserved) == (in ? p->pair[i].reserved : 0)
              && byte_of(&got.progressive) == (in ? p->pair[i].progressive : 0) && got.quality == (in ? p->pair[i].quality : 0),
@@ -124,10 +103,10 @@ static void same_copy(Rects *call, const Part *p, const char *which, size_t numb
     for (size_t k = 0; k < AROUND + numbers; k++) (out - AROUND)[k] = (uint16_t)(salt + k * 40503);
     haythaw_answer got = call(at, payload.length, null ? NULL : out, numbers);
     compared++;
-    alter(COPY, &got);
-    if (written) alter(WRITTEN, &out[written - 1]);
-    if (written < numbers) alter(AFTER, &out[numbers - 1]);
-    alter(BEFORE, &out[-1]);
+    alter(&alterable[COPY], &got);
+    if (written) alter(&alterable[WRITTEN], &out[written - 1]);
+    if (written < numbers) alter(&alterable[AFTER], &out[numbers - 1]);
+    alter(&alterable[BEFORE], &out[-1]);
     bool kept = true;
     for (size_t k = 0; k < AROUND + numbers; k++)
         kept &= (k >= AROUND && k < AROUND + written) || (out - AROUND)[k] == (uint16_t)(salt + k * 40503);
@@ -205,15 +184,15 @@ static void run(uint64_t of, uint64_t which)
 
     haythaw_avc444 got = haythaw_avc444_read(at, payload.length);
     compared++;
-    alter(READ, &got);
+    alter(&alterable[READ], &got);
     same(got.number == expected.number, "number", "", got.number);
     same(got.kind == expected.kind, "kind", "", got.kind);
-    same_stream(got.luma, &expected.part[0], "luma's ");
-    same_stream(got.chroma, &expected.part[1], "chroma's ");
+    same(same_places(got.luma, &expected.part[0]), "stream", "luma's ", got.luma.count);
+    same(same_places(got.chroma, &expected.part[1]), "stream", "chroma's ", got.chroma.count);
     compare_stream(&expected.part[0], "luma's ", haythaw_avc444_luma_rectangle, haythaw_avc444_luma_pair, haythaw_avc444_luma_rects);
     compare_stream(&expected.part[1], "chroma's ", haythaw_avc444_chroma_rectangle, haythaw_avc444_chroma_pair,
                    haythaw_avc444_chroma_rects);
-    if (payload.length) alter(PAYLOAD, &payload.bytes[payload.family == LONG ? 0 : payload.length - 1]);
+    if (payload.length) alter(&alterable[PAYLOAD], &payload.bytes[payload.family == LONG ? 0 : payload.length - 1]);
     same(kept(), "payload itself", "the ", 0);
 
     if (differences == before || (differing++ && payload.length >= smallest.length)) return;
@@ -221,29 +200,18 @@ static void run(uint64_t of, uint64_t which)
     smallest_number = number;
 }
 
-/* Whether one payload of a round, or more, shows a difference; one in 61 is tried. */
-static bool noticed(void)
-{
-    differences = 0;
-    for (uint64_t k = 0; k < ROUND && !differences; k += 61) run(1, k);
-    return differences > 0;
-}
-
 static int self_test(void)
 {
-    int missed = 0, readers = 0, fields = 0;
+    int missed = 0, readers = 0, fields;
     quiet = true;
     for (int k = AS_ASKED + 1; k < READERS; k++) {
         how = (enum reader)k;
         if (how == LENGTH_32_BITS && !far) continue; /* only a long payload shows it */
         readers++;
-        if (!noticed()) missed++, printf("wire: a wrong reader was not noticed: %s\n", reader_names[k]);
+        if (!noticed(ROUND)) missed++, printf("wire: a wrong reader was not noticed: %s\n", reader_names[k]);
     }
     how = AS_ASKED;
-    for (altered = READ; altered < ALTERABLE; altered++)
-        for (altered_field = 0; altered_field < alterable[altered].count; altered_field++, fields++)
-            if (!noticed()) missed++, printf("wire: not noticed, though altered: %s (%d)\n", alterable[altered].name, altered_field);
-    if (noticed()) missed++, printf("wire: the reader as asked differs, and nothing was altered\n");
+    fields = alter_each(alterable, ALTERABLE, ROUND, &missed);
     if (!traps(lent - 1) || !traps(lent + ROOM) || !traps(output + ROOM) || (far && !traps(far + FAR)) || traps(lent))
         missed++, printf("wire: a byte beside a buffer may be touched\n");
     if (!missed)
@@ -252,18 +220,8 @@ static int self_test(void)
     return missed != 0;
 }
 
-static void trapped(int by)
-{
-    char said[160];
-    int n = snprintf(said, sizeof said, "wire: --seed %llu --only %llu: %zu bytes: a byte outside was touched (signal %d)\n",
-                     (unsigned long long)seed, (unsigned long long)number, payload.length, by);
-    _exit(write(1, said, (size_t)n) == n ? 1 : 2);
-}
-
 static int summary(void)
 {
-    uint64_t ran = 0;
-    for (int k = 0; k < FAMILIES; k++) ran += made[k];
     if (differing) {
         printf("wire: %llu payloads differ; the smallest, --seed %llu --only %llu, has %zu bytes:", (unsigned long long)differing,
                (unsigned long long)seed, (unsigned long long)smallest_number, smallest.length);
@@ -272,11 +230,7 @@ static int summary(void)
     }
     printf("wire: %llu read; refused with 8 %llu, with 9 %llu, with 10 %llu\n", (unsigned long long)answered[0],
            (unsigned long long)answered[8], (unsigned long long)answered[9], (unsigned long long)answered[10]);
-    printf("wire: %llu payloads (", (unsigned long long)ran);
-    for (int k = 0; k < FAMILIES; k++) printf("%s%llu %s", k ? ", " : "", (unsigned long long)made[k], family_names[k]);
-    printf("), %llu answers compared, %llu differences, seed %llu\n", (unsigned long long)compared, (unsigned long long)differences,
-           (unsigned long long)seed);
-    return differences != 0;
+    return last_line(family_names, made, FAMILIES);
 }
 
 int main(int argc, char **argv)
@@ -289,7 +243,7 @@ int main(int argc, char **argv)
     signal(SIGSEGV, trapped);
     signal(SIGBUS, trapped);
     if (argc == 2 && !strcmp(argv[1], "--self-test")) return self_test();
-    const Options options = options_of("wire", 1000000, argc, argv);
-    walk("wire", "payloads", options, &differences, run);
+    const Options options = options_of(PROGRAM, 1000000, argc, argv);
+    walk(PROGRAM, CASES_ARE, options, &differences, run);
     return summary();
 }

@@ -23,6 +23,8 @@
 #include <string.h>
 #include <unistd.h>
 
+#define PROGRAM "write"
+#define CASES_ARE "cases"
 #include "haythaw.h"
 #include "pages.h"
 #include "run.h"
@@ -30,25 +32,20 @@
 #include "wire_payloads.h"
 #include "wire_writer.h"
 #include "wire_given.h"
+#include "tally.h"
 
 enum { AROUND = 8, ROOM = 2 * LONGEST, FAR_ROOMS = 9 };
 enum part { RECTS, PAIRS, DATA, PART_COUNT };
 
-/* What the self-test alters: a field of every answer of a call, or bytes. */
 enum call { WRITE, FIRST, LAST, AFTER, BESIDE, READ, COPY, COPIED, BACK, GIVEN, TAKEN, ALTERABLE };
-enum { MOST_FIELDS = 12 };
-static const struct { const char *name; int count; size_t fields[MOST_FIELDS]; } alterable[ALTERABLE] = {
-    {"an answer of write", 2, {offsetof(haythaw_answer, number), offsetof(haythaw_answer, count)}},
+static const Alterable alterable[ALTERABLE] = {
+    AN_ANSWER("an answer of write"),
     {"the first byte written", 1, {0}},
     {"the last byte written", 1, {0}},
     {"a byte after those written", 1, {0}},
     {"a byte beside the output", 1, {0}},
-    {"an answer of read", 12,
-     {offsetof(haythaw_avc444, number), offsetof(haythaw_avc444, kind), offsetof(haythaw_avc444, luma.count),
-      offsetof(haythaw_avc444, luma.rects), offsetof(haythaw_avc444, luma.pairs), offsetof(haythaw_avc444, luma.data),
-      offsetof(haythaw_avc444, luma.length), offsetof(haythaw_avc444, chroma.count), offsetof(haythaw_avc444, chroma.rects),
-      offsetof(haythaw_avc444, chroma.pairs), offsetof(haythaw_avc444, chroma.data), offsetof(haythaw_avc444, chroma.length)}},
-    {"a copy's answer", 2, {offsetof(haythaw_answer, number), offsetof(haythaw_answer, count)}},
+    AN_ANSWER_OF_READ,
+    AN_ANSWER("a copy's answer"),
     {"a number copied", 1, {0}},
     {"a byte written back", 1, {0}},
     {"a byte of a part", 6, {0, 1, 2, 3, 4, 5}},
@@ -69,24 +66,12 @@ static uint8_t *nowhere;                                        /* NOWHERE bytes
 static const size_t NOWHERE = (size_t)1 << 37;                  /* a list of 2^32 rectangles has a quarter of it */
 static const uint8_t *at;                                       /* where the payload lies */
 static uint8_t wanted[AROUND + ROOM];                           /* an output, and what is beside it, as the other writer leaves it */
-static uint64_t seed = 1, number, smallest_number;
-static uint64_t compared, differences, differing, made[SOURCES], answered[12], back[3], back_but_size, unread;
+static uint64_t made[SOURCES], answered[12], back[3], back_but_size, unread;
 static enum writer how;
-static enum call altered = ALTERABLE; /* none */
-static int altered_field;
-static bool quiet;
 
-static void same(bool holds, const char *what, const char *which, uint64_t i)
+static int say_case(char *to, size_t room)
 {
-    if (holds) return;
-    if (differences++ < 5 && !quiet)
-        printf("write: --seed %llu --only %llu: %s: %s%s differs (%llu)\n", (unsigned long long)seed, (unsigned long long)number,
-               source_names[given.source], which, what, (unsigned long long)i);
-}
-
-static void alter(enum call call, void *answer)
-{
-    if (call == altered) ((uint8_t *)answer)[alterable[call].fields[altered_field]] ^= 1;
+    return snprintf(to, room, "%s", source_names[given.source]);
 }
 
 /* Whether a stream is carried, luma (0) or chroma (1). */
@@ -162,7 +147,7 @@ static haythaw_answer write_given(uint8_t *out, size_t bytes)
     haythaw_answer got = haythaw_avc444_write(
         given.kind, lent[0].rects, l->rects_count, lent[0].pairs, l->pairs_count, lent[0].data, l->data_count, lent[1].rects,
         c->rects_count, lent[1].pairs, c->pairs_count, lent[1].data, c->data_count, out, bytes);
-    alter(WRITE, &got);
+    alter(&alterable[WRITE], &got);
     return got;
 }
 
@@ -175,11 +160,11 @@ static uint8_t *try_output(size_t bytes, bool null)
     Answered a = write_payload(given.kind, given.given, wanted + (out - from), bytes, how);
     haythaw_answer got = write_given(null ? NULL : out, bytes);
     if (!got.number && got.count <= bytes) {
-        alter(FIRST, out);
-        alter(LAST, &out[got.count - 1]);
-        if (got.count < bytes) alter(AFTER, &out[got.count]);
+        alter(&alterable[FIRST], out);
+        alter(&alterable[LAST], &out[got.count - 1]);
+        if (got.count < bytes) alter(&alterable[AFTER], &out[got.count]);
     }
-    alter(BESIDE, out == from ? out + bytes : out - 1);
+    alter(&alterable[BESIDE], out == from ? out + bytes : out - 1);
     same(got.number == a.number && got.count == a.count, "answer", "the ", bytes);
     same(!memcmp(from, wanted, AROUND + bytes), "output", "the ", bytes);
     answered[a.number]++;
@@ -196,16 +181,10 @@ static const uint16_t *copy(const uint8_t *bytes, size_t length, int which, size
     uint16_t *list = (uint16_t *)(void *)(copied + ROOM) - numbers;
     haythaw_answer got = rects_calls[which](bytes, length, list, numbers);
     compared++;
-    alter(COPY, &got);
-    if (numbers) alter(COPIED, &list[numbers - 1]);
+    alter(&alterable[COPY], &got);
+    if (numbers) alter(&alterable[COPIED], &list[numbers - 1]);
     same(got.number == 0 && got.count == numbers, "copy's answer", whose[which], numbers);
     return list;
-}
-
-/* Whether the library says of a stream what the other reader says. */
-static bool same_stream(haythaw_stream s, const Part *p)
-{
-    return s.count == p->count && s.rects == p->rects && s.pairs == p->pairs && s.data == p->data && s.length == p->length;
 }
 
 /* Reads with both readers, which have to agree; gives the number. */
@@ -213,11 +192,11 @@ static uint32_t read_both(const uint8_t *bytes, size_t length)
 {
     haythaw_avc444 got = haythaw_avc444_read(bytes, length);
     compared++;
-    alter(READ, &got);
+    alter(&alterable[READ], &got);
     read_payload(bytes, length, AS_ASKED, &reading);
     same(got.number == reading.number && got.kind == reading.kind, "answer of read", "the ", got.number);
-    same(same_stream(got.luma, &reading.part[0]), "stream read", whose[0], got.luma.count);
-    same(same_stream(got.chroma, &reading.part[1]), "stream read", whose[1], got.chroma.count);
+    same(same_places(got.luma, &reading.part[0]), "stream read", whose[0], got.luma.count);
+    same(same_places(got.chroma, &reading.part[1]), "stream read", whose[1], got.chroma.count);
     return reading.number;
 }
 
@@ -257,7 +236,7 @@ static void same_payload(uint8_t *out, size_t bytes)
     uint32_t first = payload.bytes[0] | payload.bytes[1] << 8 | payload.bytes[2] << 16 | (uint32_t)payload.bytes[3] << 24;
     uint32_t kind = first >> 30, size = first & 0x3FFFFFFF;
     bool standard = kind == 0 || size == (kind == 1 ? payload.length - 4 : 0); /* in kind 0 the first stream is as long as the size says */
-    if (out) alter(BACK, &out[bytes - 1]);
+    if (out) alter(&alterable[BACK], &out[bytes - 1]);
     bool is = out && bytes == payload.length && !memcmp(out + 4, payload.bytes + 4, bytes - 4);
     is = is && (!standard || !memcmp(out, payload.bytes, 4));
     same(is, "payload written back", "the ", bytes);
@@ -331,7 +310,7 @@ static bool kept(void)
     for (int which = 0; which < 2; which++) {
         const Given *g = &given.given[which];
         if (!given.there[which]) continue;
-        if (altered == GIVEN) {
+        if (altered == &alterable[GIVEN]) {
             uint8_t *const first[PART_COUNT] = {(uint8_t *)given.rects[which], given.pairs[which], given.data[which]};
             if (altered_field / PART_COUNT == which) *first[altered_field % PART_COUNT] ^= 1;
         }
@@ -370,7 +349,7 @@ static void run(uint64_t seeded, uint64_t which)
             try_outputs();
             same(kept(), "parts themselves", "the ", 0);
         }
-        if (payload.length) alter(TAKEN, payload.bytes);
+        if (payload.length) alter(&alterable[TAKEN], payload.bytes);
         same(!at || !memcmp(at, payload.bytes, payload.length), "payload itself", "the ", 0);
     }
     if (differences == before || (differing++ && size_of(&given) >= size_of(&smallest))) return;
@@ -378,27 +357,16 @@ static void run(uint64_t seeded, uint64_t which)
     smallest_number = number;
 }
 
-/* Whether one case of a round, or more, shows a difference; one in 61 is tried. */
-static bool noticed(void)
-{
-    differences = 0;
-    for (uint64_t k = 0; k < CASES && !differences; k += 61) run(1, k);
-    return differences > 0;
-}
-
 static int self_test(void)
 {
-    int missed = 0, writers = 0, fields = 0;
+    int missed = 0, writers = 0, fields;
     quiet = true;
     for (int k = AS_WORDED + 1; k < WRITERS; k++, writers++) {
         how = (enum writer)k;
-        if (!noticed()) missed++, printf("write: a wrong writer was not noticed: %s\n", writer_names[k]);
+        if (!noticed(CASES)) missed++, printf("write: a wrong writer was not noticed: %s\n", writer_names[k]);
     }
     how = AS_WORDED;
-    for (altered = WRITE; altered < ALTERABLE; altered++)
-        for (altered_field = 0; altered_field < alterable[altered].count; altered_field++, fields++)
-            if (!noticed()) missed++, printf("write: not noticed, though altered: %s (%d)\n", alterable[altered].name, altered_field);
-    if (noticed()) missed++, printf("write: the writer as worded differs, and nothing was altered\n");
+    fields = alter_each(alterable, ALTERABLE, CASES, &missed);
     uint8_t *const rooms[] = {parts[0][RECTS], parts[0][PAIRS], parts[0][DATA], parts[1][RECTS], parts[1][PAIRS], parts[1][DATA],
                               source, output, copied};
     bool open = !traps(nowhere) || !traps(nowhere + NOWHERE - 1);
@@ -408,14 +376,6 @@ static int self_test(void)
         printf("write: %d wrong writers, %d altered answers or bytes and a touch of each page beside a buffer are noticed\n",
                writers, fields);
     return missed != 0;
-}
-
-static void trapped(int by)
-{
-    char said[160];
-    int n = snprintf(said, sizeof said, "write: --seed %llu --only %llu: %s: a byte outside was touched (signal %d)\n",
-                     (unsigned long long)seed, (unsigned long long)number, source_names[given.source], by);
-    _exit(write(1, said, (size_t)n) == n ? 1 : 2);
 }
 
 static void show_smallest(void)
@@ -435,8 +395,6 @@ static void show_smallest(void)
 
 static int summary(void)
 {
-    uint64_t ran = 0;
-    for (int k = 0; k < SOURCES; k++) ran += made[k];
     if (differing) show_smallest();
     printf("write: %llu written; refused with 6 %llu, with 7 %llu, with 8 %llu, with 11 %llu\n", (unsigned long long)answered[0],
            (unsigned long long)answered[6], (unsigned long long)answered[7], (unsigned long long)answered[8],
@@ -445,11 +403,7 @@ static int summary(void)
            "%llu to the same but for a size that was not the standard's; %llu were not read\n",
            (unsigned long long)back[0], (unsigned long long)back[1], (unsigned long long)back[2], (unsigned long long)back_but_size,
            (unsigned long long)unread);
-    printf("write: %llu cases (", (unsigned long long)ran);
-    for (int k = 0; k < SOURCES; k++) printf("%s%llu %s", k ? ", " : "", (unsigned long long)made[k], source_names[k]);
-    printf("), %llu answers compared, %llu differences, seed %llu\n", (unsigned long long)compared, (unsigned long long)differences,
-           (unsigned long long)seed);
-    return differences != 0;
+    return last_line(source_names, made, SOURCES);
 }
 
 int main(int argc, char **argv)
@@ -464,7 +418,7 @@ int main(int argc, char **argv)
     signal(SIGSEGV, trapped);
     signal(SIGBUS, trapped);
     if (argc == 2 && !strcmp(argv[1], "--self-test")) return self_test();
-    const Options options = options_of("write", 5000000, argc, argv);
-    walk("write", "cases", options, &differences, run);
+    const Options options = options_of(PROGRAM, 5000000, argc, argv);
+    walk(PROGRAM, CASES_ARE, options, &differences, run);
     return summary();
 }
