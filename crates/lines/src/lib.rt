@@ -1,15 +1,19 @@
 // What the programs share that take their cases as lines of text: where a field ends, and what is written in it.
 //
 // Bytes and numbers of 16 bits stand in hexadecimal, each behind one space or tab, so a field of them is read from the tab before it.
-// The functions promise to be safe, to end and to stay within what they are lent; what they read is held by the stored runs.
+// What each function answers, and every element that it writes, is promised for every text (specs/Lines.antt); none asks anything of its
+// caller.
 ghost use mathlib.Core.Path.{_≡_};
-ghost use Prim.Native.Nat.{_≤_, _<_};
-ghost use lib.ListN.{length, take};
+ghost use mathlib.Core.List.{[], _∷_};
+ghost use Prim.Native.Nat.{_+_, _≤_, _<_, min};
+ghost use lib.ListN.{length};
+ghost use Rattle.lent.specs.Outcome.{OwnPart};
+ghost use Rattle.lines.specs.Lines.{placeFrom, fieldStart, fieldOf, digitOf, decimalIn};
+ghost use Rattle.lines.specs.Lines.{hexByteAt, hexNumberAt, BytesOutcome, NumbersOutcome};
 
-// Where a byte stands next, from a place on; the end where it does not.
+// Where a byte stands next, from a place on; the end where it does not, and the place itself where that is past the end.
 pub fn find(s: &[u8], at: usize, byte: u8) -> usize
-    requires { ⌜ at ≤ length (now s) ⌝ }
-    ensures { λ r. ⌜ (at ≤ r) × (r ≤ length (now (s .entry))) ⌝ }
+    ensures { λ r. ⌜ r ≡ placeFrom (now (s .entry)) at byte ⌝ }
 {
     let mut i = at;
     while i < s.len() {
@@ -21,10 +25,10 @@ pub fn find(s: &[u8], at: usize, byte: u8) -> usize
     i
 }
 
-// Where the field that starts at a place ends: the next tab after it, or the end.
-fn field_end(s: &[u8], at: usize) -> usize
+// Where the next tab stands after a place; the end where there is none.
+fn tab_after(s: &[u8], at: usize) -> usize
     requires { ⌜ at ≤ length (now s) ⌝ }
-    ensures { λ r. ⌜ (at ≤ r) × (r ≤ length (now (s .entry))) ⌝ }
+    ensures { λ r. ⌜ r ≡ min (length (now (s .entry))) (placeFrom (now (s .entry)) (at + 1) 9) ⌝ }
 {
     if at == s.len() {
         return at;
@@ -33,19 +37,23 @@ fn field_end(s: &[u8], at: usize) -> usize
 }
 
 // Field k of a line, from the tab before it on; field 0 starts the line. Empty where the line has no such field.
-pub fn field(s: &[u8], k: usize) -> &[u8] {
+pub fn field(s: &[u8], k: usize) -> &[u8]
+    ensures { λ r. ⌜ OwnPart (s .entry) r (fieldStart (now (s .entry)) k) (fieldOf (now (s .entry)) k) ⌝ }
+{
     let mut at = 0;
+    let mut end = find(s, 0, b'\t');
     let mut i = 0;
     while i < k {
-        at = field_end(s, at);
+        at = end;
+        end = tab_after(s, at);
         i += 1;
     }
-    let end = field_end(s, at);
     &s[at..end]
 }
 
+// What a digit stands for; 0 for a character that is none.
 fn digit(c: u8) -> u8
-    ensures { λ r. ⌜ r < 16 ⌝ }
+    ensures { λ r. ⌜ (r ≡ digitOf c) × (r < 16) ⌝ }
 {
     match c {
         b'0'..=b'9' => c - b'0',
@@ -54,22 +62,30 @@ fn digit(c: u8) -> u8
     }
 }
 
-fn two_digits(high: u8, low: u8) -> u8 {
-    16 * digit(high) + digit(low)
+// The byte in the two digits at a place.
+fn byte_at(text: &[u8], at: usize) -> u8
+    requires { ⌜ at + 2 ≤ length (now text) ⌝ }
+    ensures { λ r. ⌜ r ≡ hexByteAt (now (text .entry)) at ⌝ }
+{
+    16 * digit(text[at]) + digit(text[at + 1])
 }
 
-fn four_digits(a: u8, b: u8, c: u8, d: u8) -> u16 {
-    256 * (two_digits(a, b) as u16) + two_digits(c, d) as u16
+// The number in the four digits at a place.
+fn number_at(text: &[u8], at: usize) -> u16
+    requires { ⌜ at + 4 ≤ length (now text) ⌝ }
+    ensures { λ r. ⌜ r ≡ hexNumberAt (now (text .entry)) at ⌝ }
+{
+    256 * (byte_at(text, at) as u16) + byte_at(text, at + 2) as u16
 }
 
 // The first bytes of out become those that are written in text, and the answer is how many; what out has no room for is left.
 pub fn bytes(text: &[u8], out: &mut [u8]) -> usize
-    ensures { λ r. ⌜ (r ≤ length (now (out .exit))) × (r ≡ length (take r (now (out .exit)))) ⌝ }
+    ensures { λ r. ⌜ BytesOutcome (now (text .entry)) (now (out .entry)) r (now (out .exit) ∷ []) ⌝ }
 {
     let n = lent::least(text.len() / 3, out.len());
     let mut k = 0;
     while k < n {
-        out[k] = two_digits(text[3 * k + 1], text[3 * k + 2]);
+        out[k] = byte_at(text, 3 * k + 1);
         k += 1;
     }
     n
@@ -77,26 +93,27 @@ pub fn bytes(text: &[u8], out: &mut [u8]) -> usize
 
 // The same of numbers of 16 bits.
 pub fn numbers(text: &[u8], out: &mut [u16]) -> usize
-    ensures { λ r. ⌜ (r ≤ length (now (out .exit))) × (r ≡ length (take r (now (out .exit)))) ⌝ }
+    ensures { λ r. ⌜ NumbersOutcome (now (text .entry)) (now (out .entry)) r (now (out .exit) ∷ []) ⌝ }
 {
     let n = lent::least(text.len() / 5, out.len());
     let mut k = 0;
     while k < n {
-        let at = 5 * k;
-        out[k] = four_digits(text[at + 1], text[at + 2], text[at + 3], text[at + 4]);
+        out[k] = number_at(text, 5 * k + 1);
         k += 1;
     }
     n
 }
 
 fn wide(b: u8) -> usize
-    ensures { λ r. ⌜ r < 256 ⌝ }
+    ensures { λ r. ⌜ (r ≡ b) × (r < 256) ⌝ }
 {
     b as usize
 }
 
-// The number that is written in text in decimal, whatever stands in front of it. It is below 2^32: what is more is cut off.
-pub fn decimal(text: &[u8]) -> u32 {
+// The number that is written in text in decimal, modulo 2^32. A character that is no digit counts as 0, so a tab in front does nothing.
+pub fn decimal(text: &[u8]) -> u32
+    ensures { λ r. ⌜ r ≡ decimalIn (now (text .entry)) ⌝ }
+{
     let mut n = 0;
     let mut i = 0;
     while i < text.len() {

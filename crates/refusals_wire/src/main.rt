@@ -52,12 +52,11 @@ fn run(s: &[u8], before: &[u8]) {
 fn case(text: &[u8]) {
     let mut s = [0u8; 64];
     let mut before = [0u8; 64];
-    let tab = lines::find(text, 0, b'\t');
-    let n = lines::bytes(&text[tab..], &mut s);
-    let m = lines::bytes(&text[tab..], &mut before);
-    say::text(&text[0..tab]);
+    let n = lines::bytes(lines::field(text, 1), &mut s);
+    let m = lines::bytes(lines::field(text, 1), &mut before);
+    say::text(lines::field(text, 0));
     say::text(b": ");
-    run(&s[..n], &before[..m]);
+    run(&s[0..n], &before[0..m]);
     say::text(b"\n");
 }
 

@@ -80,9 +80,9 @@ fn both(text: &[u8], luma_rects: &[u16], luma_pairs: &[u8], luma_data: &[u8]) {
         luma_rects,
         luma_pairs,
         luma_data,
-        &rects[..r],
-        &pairs[..p],
-        &data[..d],
+        &rects[0..r],
+        &pairs[0..p],
+        &data[0..d],
     );
 }
 
@@ -93,7 +93,7 @@ fn case(text: &[u8]) {
     let r = lines::numbers(lines::field(text, 2), &mut rects);
     let p = lines::bytes(lines::field(text, 3), &mut pairs);
     let d = lines::bytes(lines::field(text, 4), &mut data);
-    both(text, &rects[..r], &pairs[..p], &data[..d]);
+    both(text, &rects[0..r], &pairs[0..p], &data[0..d]);
 }
 
 fn cases(s: &[u8]) {

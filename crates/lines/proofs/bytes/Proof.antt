@@ -1,14 +1,21 @@
--- The invariant: text and out have room for all n, and out keeps its length. What is left of the n falls. Assumes nothing.
-use mathlib.Core.Path.{_≡_}
-use Prim.Native.Nat.{_*_, _-_, _≤_}
+-- `lines::bytes` meets its contract. The invariant: the bytes below k are written, the others as they were. Assumes nothing.
+use Prim.Native.Nat.{ℕ, _+_, _*_, _-_, _/_, _≤_}
 use native.Mathlib.Omega.{arith}
+use mathlib.Core.Path.{_≡_, refl, ap, _∙_}
+use mathlib.Core.List.{List, [], _∷_}
 use borrow.Author.Needs.{needs}
-use lib.ListN.{length, length-take}
+use borrow.Author.Tests.{le-ltb}
+use lib.Dec.{ltb}
+use lib.ListN.{length, length-set}
+use Rattle.lent.specs.Paint.{paint}
+use Rattle.lent.proofs.Paint.{paint-none, paint-next}
+use Rattle.lines.specs.Lines.{hexByteAt, hexBytes}
+use Rattle.lines.proofs.Lines.{front-room}
 use Rattle.lines.proofs.bytes.Statement.{statement}
 use Rattle.lines.proofs.bytes.Tie as tie
 
 abbrev Inv-loop : tie.InvT-loop
-Inv-loop text out₀ n k₀ out k = (k ≤ n) × (3 * n ≤ length text) × (n ≤ length out) × (length out ≡ length out₀)
+Inv-loop text out₀ n k₀ out k = (k ≤ n) × (length out ≡ length out₀) × (out ≡ paint (λ j. ltb j k) (λ j. hexByteAt text (3 * j + 1)) out₀)
 
 abbrev μ-loop : tie.MeasureT-loop
 μ-loop text out₀ n k₀ out k = n - k
@@ -17,28 +24,16 @@ least-requires : tie.Need-least-requires Inv-loop μ-loop
 least-requires c κs = search needs
 
 loop-holds : tie.Need-loop-holds Inv-loop μ-loop
-loop-holds c = search needs
+loop-holds c = (omega arith, refl, paint-none _ _ _ (λ j h. le-ltb j 0 (omega arith)))
 
-mul-two-digits : tie.Need-mul-two-digits Inv-loop μ-loop
-mul-two-digits c = search needs
+mul-byte-at : tie.Need-mul-byte-at Inv-loop μ-loop
+mul-byte-at c = search needs
 
-add-two-digits : tie.Need-add-two-digits Inv-loop μ-loop
-add-two-digits c = search needs
+add-byte-at : tie.Need-add-byte-at Inv-loop μ-loop
+add-byte-at c = search needs
 
-shared-slice-read-two-digits : tie.Need-shared-slice-read-two-digits Inv-loop μ-loop
-shared-slice-read-two-digits c = search needs
-
-mul-two-digits-2 : tie.Need-mul-two-digits-2 Inv-loop μ-loop
-mul-two-digits-2 c = search needs
-
-add-two-digits-2 : tie.Need-add-two-digits-2 Inv-loop μ-loop
-add-two-digits-2 c = search needs
-
-shared-slice-read-two-digits-2 : tie.Need-shared-slice-read-two-digits-2 Inv-loop μ-loop
-shared-slice-read-two-digits-2 c = search needs
-
-two-digits-requires : tie.Need-two-digits-requires Inv-loop μ-loop
-two-digits-requires c κs = search needs
+byte-at-requires : tie.Need-byte-at-requires Inv-loop μ-loop
+byte-at-requires c κs = search needs
 
 slice-write-out : tie.Need-slice-write-out Inv-loop μ-loop
 slice-write-out c = search needs
@@ -50,13 +45,22 @@ loop-less : tie.Need-loop-less Inv-loop μ-loop
 loop-less c = search needs
 
 loop-again : tie.Need-loop-again Inv-loop μ-loop
-loop-again c = search needs
+loop-again c =
+    let l = c .before .before in
+    (omega arith, simp length-set (omega arith), rw (l .loop .inv .2) (paint-next _ _ (l .loop .k) _ (omega arith) (c .byte-at .ensures)))
 
 same-length : tie.Need-same-length Inv-loop μ-loop
 same-length c = search needs
 
 returns : tie.Need-returns Inv-loop μ-loop
-returns c = (search needs, simp length-take (omega arith))
+unfolding hexBytes
+returns c =
+    let l = c .before .loop in
+    let a = c .before .before .before .before .before .args in
+    record {
+      answer = c .before .before .least .ensures;
+      buffers = ap (λ (ys : List ℕ). ys ∷ []) (l .inv .2 ∙ front-room (length (a .text .now) / 3) (l .k) _ (a .out .now) (omega arith));
+    }
 
 pub bytes-spec : {M : Type 1} → statement M
 bytes-spec =
@@ -66,13 +70,9 @@ bytes-spec =
     μ-loop
     least-requires
     loop-holds
-    mul-two-digits
-    add-two-digits
-    shared-slice-read-two-digits
-    mul-two-digits-2
-    add-two-digits-2
-    shared-slice-read-two-digits-2
-    two-digits-requires
+    mul-byte-at
+    add-byte-at
+    byte-at-requires
     slice-write-out
     add-k
     loop-less

@@ -1,14 +1,21 @@
--- The invariant: text and out have room for all n, and out keeps its length. What is left of the n falls. Assumes nothing.
-use mathlib.Core.Path.{_≡_}
-use Prim.Native.Nat.{_*_, _-_, _≤_}
+-- `lines::numbers` meets its contract. The invariant: the numbers below k are written, the others as they were. Assumes nothing.
+use Prim.Native.Nat.{ℕ, _+_, _*_, _-_, _/_, _≤_}
 use native.Mathlib.Omega.{arith}
+use mathlib.Core.Path.{_≡_, refl, ap, _∙_}
+use mathlib.Core.List.{List, [], _∷_}
 use borrow.Author.Needs.{needs}
-use lib.ListN.{length, length-take}
+use borrow.Author.Tests.{le-ltb}
+use lib.Dec.{ltb}
+use lib.ListN.{length, length-set}
+use Rattle.lent.specs.Paint.{paint}
+use Rattle.lent.proofs.Paint.{paint-none, paint-next}
+use Rattle.lines.specs.Lines.{hexNumberAt, hexNumbers}
+use Rattle.lines.proofs.Lines.{front-room}
 use Rattle.lines.proofs.numbers.Statement.{statement}
 use Rattle.lines.proofs.numbers.Tie as tie
 
 abbrev Inv-loop : tie.InvT-loop
-Inv-loop text out₀ n k₀ out k = (k ≤ n) × (5 * n ≤ length text) × (n ≤ length out) × (length out ≡ length out₀)
+Inv-loop text out₀ n k₀ out k = (k ≤ n) × (length out ≡ length out₀) × (out ≡ paint (λ j. ltb j k) (λ j. hexNumberAt text (5 * j + 1)) out₀)
 
 abbrev μ-loop : tie.MeasureT-loop
 μ-loop text out₀ n k₀ out k = n - k
@@ -17,37 +24,16 @@ least-requires : tie.Need-least-requires Inv-loop μ-loop
 least-requires c κs = search needs
 
 loop-holds : tie.Need-loop-holds Inv-loop μ-loop
-loop-holds c = search needs
+loop-holds c = (omega arith, refl, paint-none _ _ _ (λ j h. le-ltb j 0 (omega arith)))
 
-mul-at : tie.Need-mul-at Inv-loop μ-loop
-mul-at c = search needs
+mul-number-at : tie.Need-mul-number-at Inv-loop μ-loop
+mul-number-at c = search needs
 
-add-four-digits : tie.Need-add-four-digits Inv-loop μ-loop
-add-four-digits c = search needs
+add-number-at : tie.Need-add-number-at Inv-loop μ-loop
+add-number-at c = search needs
 
-shared-slice-read-four-digits : tie.Need-shared-slice-read-four-digits Inv-loop μ-loop
-shared-slice-read-four-digits c = search needs
-
-add-four-digits-2 : tie.Need-add-four-digits-2 Inv-loop μ-loop
-add-four-digits-2 c = search needs
-
-shared-slice-read-four-digits-2 : tie.Need-shared-slice-read-four-digits-2 Inv-loop μ-loop
-shared-slice-read-four-digits-2 c = search needs
-
-add-four-digits-3 : tie.Need-add-four-digits-3 Inv-loop μ-loop
-add-four-digits-3 c = search needs
-
-shared-slice-read-four-digits-3 : tie.Need-shared-slice-read-four-digits-3 Inv-loop μ-loop
-shared-slice-read-four-digits-3 c = search needs
-
-add-four-digits-4 : tie.Need-add-four-digits-4 Inv-loop μ-loop
-add-four-digits-4 c = search needs
-
-shared-slice-read-four-digits-4 : tie.Need-shared-slice-read-four-digits-4 Inv-loop μ-loop
-shared-slice-read-four-digits-4 c = search needs
-
-four-digits-requires : tie.Need-four-digits-requires Inv-loop μ-loop
-four-digits-requires c κs = search needs
+number-at-requires : tie.Need-number-at-requires Inv-loop μ-loop
+number-at-requires c κs = search needs
 
 mul-out : tie.Need-mul-out Inv-loop μ-loop
 mul-out c = search needs
@@ -62,13 +48,22 @@ loop-less : tie.Need-loop-less Inv-loop μ-loop
 loop-less c = search needs
 
 loop-again : tie.Need-loop-again Inv-loop μ-loop
-loop-again c = search needs
+loop-again c =
+    let l = c .before .before in
+    (omega arith, simp length-set (omega arith), rw (l .loop .inv .2) (paint-next _ _ (l .loop .k) _ (omega arith) (c .number-at .ensures)))
 
 same-length : tie.Need-same-length Inv-loop μ-loop
 same-length c = search needs
 
 returns : tie.Need-returns Inv-loop μ-loop
-returns c = (search needs, simp length-take (omega arith))
+unfolding hexNumbers
+returns c =
+    let l = c .before .loop in
+    let a = c .before .before .before .before .before .args in
+    record {
+      answer = c .before .before .least .ensures;
+      buffers = ap (λ (ys : List ℕ). ys ∷ []) (l .inv .2 ∙ front-room (length (a .text .now) / 5) (l .k) _ (a .out .now) (omega arith));
+    }
 
 pub numbers-spec : {M : Type 1} → statement M
 numbers-spec =
@@ -78,16 +73,9 @@ numbers-spec =
     μ-loop
     least-requires
     loop-holds
-    mul-at
-    add-four-digits
-    shared-slice-read-four-digits
-    add-four-digits-2
-    shared-slice-read-four-digits-2
-    add-four-digits-3
-    shared-slice-read-four-digits-3
-    add-four-digits-4
-    shared-slice-read-four-digits-4
-    four-digits-requires
+    mul-number-at
+    add-number-at
+    number-at-requires
     mul-out
     slice-write-out
     add-k

@@ -1,0 +1,2 @@
+-- The laws of a line of text.
+pub mod Lines

@@ -1,0 +1,2 @@
+-- A case as a line of text.
+pub mod Lines
