@@ -2,7 +2,7 @@
 # Finds the Rust original and lays it out, unchanged, in oracle/build/original:
 #   avc444.rs   whole, and one line more that declares its child module `probe`
 #   decode.rs   whole
-#   avc.rs      of pdu/avc.rs the functions is_avc_format and avc_to_annex_b_into, with their comments
+#   avc.rs      pdu/avc.rs, whole
 # It looks in the folder HAYTHAW_RUST (a checkout's crates/ironrdp-egfx/src) if that is set, else in docs/src
 # of this repository, else in the folder `shared` beside it. The files have the names that they have in a
 # checkout, or src--crates--ironrdp-egfx--src--avc444.rs.txt and so on.
@@ -36,17 +36,6 @@ find_original() {
     exit 3
 }
 
-# Prints a function of a file with the comments and attributes above it.
-cut_function() { # NAME FILE
-    awk -v head="pub fn $1(" '
-        !inside && /^(\/\/\/|#\[)/ { above = above $0 "\n"; next }
-        !inside && index($0, head) == 1 { printf "%s", above; inside = 1 }
-        inside { print }
-        inside && $0 == "}" { whole = 1; exit }
-        { above = "" }
-        END { exit !whole }' "$2" || fail "$2 has no function $1 that starts with 'pub fn' and ends with a line '}'"
-}
-
 # Puts a file in its place, and leaves an equal one alone, so that cargo builds nothing again.
 settle() { # NEW PLACE
     if cmp -s "$1" "$2"; then rm "$1"; else mv "$1" "$2"; fi
@@ -66,14 +55,11 @@ settle "$new" "$out/avc444.rs"
 cat "$decode" >"$new"
 settle "$new" "$out/decode.rs"
 
-{
-    cut_function is_avc_format "$avc"
-    echo
-    cut_function avc_to_annex_b_into "$avc"
-} >"$new"
+cat "$avc" >"$new"
 settle "$new" "$out/avc.rs"
 
 cmp -n "$(wc -c <"$avc444")" "$avc444" "$out/avc444.rs" || fail "the copy of avc444.rs is not the original's"
 [[ $(wc -l <"$out/avc444.rs") -eq $(($(wc -l <"$avc444") + 1)) ]] || fail "avc444.rs has more than one line added"
 cmp "$decode" "$out/decode.rs" || fail "the copy of decode.rs is not the original's"
+cmp "$avc" "$out/avc.rs" || fail "the copy of pdu/avc.rs is not the original's"
 printf 'original: %s\n' "$(dirname "$avc444")"

@@ -1,10 +1,6 @@
 //! The Rust original, unchanged, as `original.sh` lays it out in `oracle/build/original`.
 //!
 //! `avc444` ends with one line that is not the original's: it declares `avc444::probe`.
-//! `pdu` holds two functions of the original's `pdu/avc.rs`.
-
-#[macro_use]
-extern crate tracing;
 
 #[path = "../../build/original/avc444.rs"]
 pub mod avc444;
@@ -16,3 +12,4 @@ pub mod decode;
 pub mod pdu;
 
 pub use ironrdp_pdu::geometry::ExclusiveRectangle;
+pub use ironrdp_pdu::{Decode, Encode, Error, ReadCursor, WriteCursor};
