@@ -1,4 +1,4 @@
-//! The AVC444 payload: what it carries and where, the rectangles of its luma stream, and the payload written.
+//! The AVC444 payload: what it carries and where, the rectangles and pairs of its streams, and the payload written.
 
 use super::Answer;
 
@@ -35,6 +35,18 @@ pub struct Rectangle {
     pub bottom: u16,
 }
 
+/// 0 or the number of a refusal, and a pair if there is one.
+#[repr(C)]
+#[derive(Debug, Clone, Copy, PartialEq, Eq)]
+pub struct Pair {
+    pub number: u32,
+    pub present: bool,
+    pub value: u8,
+    pub reserved: bool,
+    pub progressive: bool,
+    pub quality: u8,
+}
+
 /// What is lent for a stream that is to be written.
 #[derive(Debug, Clone, Copy)]
 pub struct Parts<'a> {
@@ -47,6 +59,9 @@ pub struct Parts<'a> {
 unsafe extern "C" {
     fn haythaw_avc444_read(payload: *const u8, payload_count: usize) -> Avc444;
     fn haythaw_avc444_luma_rectangle(payload: *const u8, payload_count: usize, i: usize) -> Rectangle;
+    fn haythaw_avc444_chroma_rectangle(payload: *const u8, payload_count: usize, i: usize) -> Rectangle;
+    fn haythaw_avc444_luma_pair(payload: *const u8, payload_count: usize, i: usize) -> Pair;
+    fn haythaw_avc444_chroma_pair(payload: *const u8, payload_count: usize, i: usize) -> Pair;
     fn haythaw_avc444_luma_rects(payload: *const u8, payload_count: usize, out: *mut u16, out_count: usize) -> Answer;
     fn haythaw_avc444_write(
         kind: u32,
@@ -79,6 +94,27 @@ pub fn avc444_read(payload: &[u8]) -> Avc444 {
 pub fn avc444_luma_rectangle(payload: &[u8], i: usize) -> Rectangle {
     // SAFETY: the call reads the slice alone, and is proved for every content, length and `i`.
     unsafe { haythaw_avc444_luma_rectangle(payload.as_ptr(), payload.len(), i) }
+}
+
+/// Rectangle `i` of the chroma stream.
+#[inline]
+pub fn avc444_chroma_rectangle(payload: &[u8], i: usize) -> Rectangle {
+    // SAFETY: as above.
+    unsafe { haythaw_avc444_chroma_rectangle(payload.as_ptr(), payload.len(), i) }
+}
+
+/// Pair `i` of the luma stream.
+#[inline]
+pub fn avc444_luma_pair(payload: &[u8], i: usize) -> Pair {
+    // SAFETY: as above.
+    unsafe { haythaw_avc444_luma_pair(payload.as_ptr(), payload.len(), i) }
+}
+
+/// Pair `i` of the chroma stream.
+#[inline]
+pub fn avc444_chroma_pair(payload: &[u8], i: usize) -> Pair {
+    // SAFETY: as above.
+    unsafe { haythaw_avc444_chroma_pair(payload.as_ptr(), payload.len(), i) }
 }
 
 /// The rectangles of the luma stream, four numbers each.

@@ -14,7 +14,8 @@ mod view;
 
 pub use answer::Answer;
 pub use avc444::{
-    avc444_luma_rectangle, avc444_luma_rects, avc444_read, avc444_write, Avc444, Parts, Rectangle, Stream,
+    avc444_chroma_pair, avc444_chroma_rectangle, avc444_luma_pair, avc444_luma_rectangle, avc444_luma_rects,
+    avc444_read, avc444_write, Avc444, Pair, Parts, Rectangle, Stream,
 };
 pub use colour::{average, filter, forward, reverse};
 pub use combine::{apply_auxiliary_v1, apply_auxiliary_v2, apply_main_view};

@@ -3,6 +3,7 @@
 mod allocation_size;
 mod annex_b;
 mod apply;
+mod avc444;
 pub mod avc444_payload;
 mod avc444_write;
 mod avc_format;
@@ -57,6 +58,8 @@ pub const SUITES: &[Suite] = &[
     split::V1_SUITE,
     split::V2_SUITE,
     round_trip::SUITE,
+    avc444::WRITE_SUITE,
+    avc444::READ_SUITE,
 ];
 
 pub const BENCHES: &[Bench] = &[
