@@ -1,5 +1,5 @@
-//! The reader of the AVC444 payload timed. The original's is not here, so a plain sum is beside it, which reads each byte of the payload
-//! once: byte by byte, as one writes it, and in words of eight, which is the cheapest.
+//! The reader of the AVC444 payload timed. The original's stands on stand-ins here, whose times say nothing, so a plain sum is beside it,
+//! which reads each byte of the payload once: byte by byte, as one writes it, and in words of eight, which is the cheapest.
 
 use std::hint::black_box;
 

@@ -1,5 +1,5 @@
-//! The writer of the AVC444 payload timed. The original's is not here, so a plain copy is beside it, which reads and writes as many bytes
-//! as the payload has, all at once.
+//! The writer of the AVC444 payload timed. The original's stands on stand-ins here, whose times say nothing, so a plain copy is beside it,
+//! which reads and writes as many bytes as the payload has, all at once.
 
 use std::hint::black_box;
 

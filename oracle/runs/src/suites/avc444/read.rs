@@ -13,6 +13,7 @@ use original::pdu::Avc444BitmapStream;
 use original::{Decode as _, Error, ReadCursor};
 
 use super::carried::Carried;
+use crate::answer::Answer as _;
 use crate::random::Random;
 use crate::run::Run;
 use crate::suites::bytes;
@@ -74,8 +75,9 @@ pub fn every(run: &mut Run) {
 }
 
 pub fn replay(run: &mut Run, words: &[u64]) -> Result<(), String> {
-    let row = check(run, &bytes::all(words)?);
-    println!("of the original is stated: {row:?}");
+    let payload = bytes::all(words)?;
+    println!("stated of the original: {:?}", check(run, &payload));
+    println!("the original itself: {}", decoded(&payload).shown());
     Ok(())
 }
 

@@ -12,6 +12,7 @@ use original::{Decode as _, ReadCursor};
 use super::carried::Carried;
 use super::case::{Case, Encoded, Ending, Sizes, Streams, Way};
 use super::stated::{self, Row, Stated};
+use crate::answer::beginning;
 use crate::ours;
 use crate::outcome::{Lent, Outcome};
 use crate::random::Random;
@@ -62,8 +63,14 @@ pub fn every(run: &mut Run) {
 }
 
 pub fn replay(run: &mut Run, words: &[u64]) -> Result<(), String> {
-    let rows = check(run, &Case::of_words(words)?);
-    println!("of the original is stated: {rows:?}");
+    let case = Case::of_words(words)?;
+    println!("stated of the original: {:?}", check(run, &case));
+    let streams = Streams::new(&case);
+    for way in [Way::Plain, Way::OtherSecond, Way::SevenBits] {
+        if let Some(Encoded { ending, at, mut output }) = streams.encoded(&case, way) {
+            println!("the original itself, {way:?}: {ending:?}, wrote {}", beginning(&output.lent()[..at]));
+        }
+    }
     Ok(())
 }
 
