@@ -36,7 +36,7 @@ impl Sizes {
     }
 }
 
-/// A case. Two numbers that are equal for all else make the same bytes.
+/// A case. The seed decides the numbers and bytes that are lent.
 #[derive(Debug, Clone, Copy, PartialEq, Eq)]
 pub struct Case {
     pub kind: u32,

@@ -3,9 +3,10 @@
 //! Where the original has no number of its own, its errors are: 9 where the payload has no first number, or the size runs past it; 8 where
 //! it says that the kind is reserved; 10 in a stream, and where kind 0 has the size 0.
 //!
-//! The intended differences are those of docs/DIFFERENCES.md, "The AVC444 payload". In kinds 1 and 2 a size from 1 to less than what follows
-//! ends the original's stream there, and is not used here. So the original is asked about the same payload with the size 0, for which both
-//! let the stream run to the end; and what it makes of the payload itself has to be what it makes of the payload cut after the size.
+//! The intended differences are those of docs/DIFFERENCES.md, "The AVC444 payload". In kinds 1 and 2 a size from 1 to less than what
+//! follows ends the original's stream there, and is not used here. So the original is asked about the same payload with the size 0, for
+//! which both let the stream run to the end; and what it makes of the payload itself has to be what it makes of the payload cut after the
+//! size.
 
 use std::collections::BTreeSet;
 
@@ -25,13 +26,13 @@ const SIZES: u32 = (1 << 30) - 1;
 #[derive(Debug, Clone, Copy, PartialEq, Eq, PartialOrd, Ord)]
 enum Row {
     /// A size of 1 to 3 in kinds 1 and 2: refused.
-    SizeTiny,
+    TinySize,
     /// A size that ends the stream early in kinds 1 and 2: the rest is dropped.
-    SizeCuts,
+    CutStream,
     /// The same, and a count that needs the rest: refused.
-    SizeCutsCount,
+    CutCount,
     /// Kind 0 with the size 0: refused as an encoding that is invalid.
-    SizeNone,
+    NoSize,
 }
 
 /// Every payload that is compared.
@@ -70,7 +71,7 @@ pub fn every(run: &mut Run) {
             }
         }
     }
-    let all = [Row::SizeTiny, Row::SizeCuts, Row::SizeCutsCount, Row::SizeNone];
+    let all = [Row::TinySize, Row::CutStream, Row::CutCount, Row::NoSize];
     assert!(all.iter().all(|row| met.contains(row)), "of what is stated the cases show {met:?} alone");
 }
 
@@ -131,13 +132,13 @@ fn check(run: &mut Run, payload: &[u8]) -> Option<Row> {
             match size {
                 1..4 => {
                     assert_eq!(itself.number, 10, "the original refuses the size of {payload:?}");
-                    (Some(Row::SizeTiny), sizeless)
+                    (Some(Row::TinySize), sizeless)
                 }
-                _ if itself.number == 0 => (Some(Row::SizeCuts), sizeless),
-                _ => (Some(Row::SizeCutsCount).filter(|_| sizeless.number == 0), sizeless),
+                _ if itself.number == 0 => (Some(Row::CutStream), sizeless),
+                _ => (Some(Row::CutCount).filter(|_| sizeless.number == 0), sizeless),
             }
         }
-        Some((0, 0)) => (Some(Row::SizeNone), itself),
+        Some((0, 0)) => (Some(Row::NoSize), itself),
         _ => (None, itself),
     };
     run.compare(&ours, &theirs, payload.len() as u64, || {
@@ -153,7 +154,7 @@ fn info(payload: &[u8]) -> Option<(u32, u32)> {
 }
 
 /// What the original makes of a payload.
-fn decoded(payload: &[u8]) -> Carried {
+pub fn decoded(payload: &[u8]) -> Carried {
     match Avc444BitmapStream::decode(&mut ReadCursor::new(payload)) {
         Ok(stream) => Carried::decoded(&stream),
         Err(error) => Carried::refused(number_of(&error, payload)),

@@ -10,16 +10,28 @@ pub enum Row {
     Same,
     /// The original has no such input: a kind above 255, a list that is not in fours, half a pair.
     NoInput,
+    /// Kind 3 is written.
     Kind3,
+    /// A kind from 4 on panics.
     KindFrom4,
+    /// A second stream that the kind does not carry is refused.
     SecondUnasked,
+    /// Kind 0 without a second stream is refused.
     SecondMissing,
+    /// A first stream of 2^30 bytes or more panics; from 2^32 bytes on it is refused.
     FirstLong,
+    /// In kind 2 it is written, or lacks room alone.
     FirstLongOfKind2,
+    /// Too few pairs are written, where there is room for all; with debug assertions they panic.
     PairsFew,
+    /// Too many pairs are written. Where they lack room, those that have room are; where what is behind them lacks room, it panics. With
+    /// debug assertions they panic.
     PairsMany,
+    /// Bit 6 of a quantiser byte is 0, and a quantiser above 63 is refused after what precedes its pair was written.
     Reserved,
+    /// Too little room for a stream is refused after what precedes the stream was written.
     Room,
+    /// Too little room for the first number is refused, whatever else is wrong.
     RoomForNumber,
 }
 
@@ -126,8 +138,8 @@ pub fn seven_bits(case: &Case, streams: &Streams, plain: &Stated) -> Option<Stat
     None
 }
 
-/// The first `count` of the bytes that the original writes one after the other: the first number with the size that it says, and the streams
-/// as they are lent, without bit 6 of a quantiser byte.
+/// The first `count` of the bytes that the original writes one after the other: the first number with the size that it says, and the
+/// streams as they are lent, without bit 6 of a quantiser byte.
 pub fn bytes(case: &Case, streams: &Streams, count: usize) -> Vec<u8> {
     let info = case.kind << 30 | size_said(case) as u32;
     let mut bytes = info.to_le_bytes().to_vec();

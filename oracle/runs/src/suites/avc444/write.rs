@@ -1,16 +1,14 @@
 //! `haythaw_avc444_write` beside `Avc444BitmapStream::encode`, and what it wrote read by `Avc444BitmapStream::decode`.
 //!
-//! The original has no numbers: 8, 7 and 11 follow the order of the rules, worked out here, and its error for too little room is 6. Where it
-//! writes, its bytes are what is to be written, with bit 6 of each quantiser byte put back, which it cannot write. What it does in place of a
-//! refusal, and in every other case, is what `stated` says, byte by byte.
+//! The original has no numbers: 8, 7 and 11 follow the order of the rules, worked out here, and its error for too little room is 6. Where
+//! it writes, its bytes are what is to be written, with bit 6 of each quantiser byte put back, which it cannot write. In every case, also
+//! where ours is refused, what it does has to be what `stated` says, byte by byte.
 
 use std::collections::BTreeSet;
 
-use original::pdu::Avc444BitmapStream;
-use original::{Decode as _, ReadCursor};
-
 use super::carried::Carried;
 use super::case::{Case, Encoded, Ending, Sizes, Streams, Way};
+use super::read::decoded;
 use super::stated::{self, Row, Stated};
 use crate::answer::beginning;
 use crate::ours;
@@ -141,20 +139,16 @@ fn check(run: &mut Run, case: &Case) -> Vec<Row> {
 
     if number == 0 {
         let lent = run.ours(Carried::lent(case.kind, streams.luma.parts(), streams.chroma.parts()));
-        let read = match Avc444BitmapStream::decode(&mut ReadCursor::new(&written)) {
-            Ok(stream) => Carried::decoded(&stream),
-            Err(error) => panic!("the original does not read what was written, in {}: {error:?}", case.words()),
-        };
-        run.compare(&lent, &read, case.weight(), || case.words());
+        run.compare(&lent, &decoded(&written), case.weight(), || case.words());
     }
     rows
 }
 
 /// How the call is to end, by what the original does. What is stated of it goes to `rows`.
 fn theirs(case: &Case, streams: &Streams, rows: &mut Vec<Row>) -> Outcome {
-    let plain = streams.encoded(case, Way::Plain).map(|encoded| {
+    let plain = streams.encoded(case, Way::Plain).inspect(|encoded| {
         let stated = stated::plain(case, streams);
-        hold(case, streams, &encoded, &stated, rows);
+        hold(case, streams, encoded, &stated, rows);
         if let Some(other) = streams.encoded(case, Way::OtherSecond) {
             hold(case, streams, &other, &stated::other_second(case), rows);
         }
@@ -162,7 +156,6 @@ fn theirs(case: &Case, streams: &Streams, rows: &mut Vec<Row>) -> Outcome {
             let encoded = streams.encoded(case, Way::SevenBits).expect("as plain");
             hold(case, streams, &encoded, &refused, rows);
         }
-        encoded
     });
     let unwritten = |number| Outcome::unwritten(number, vec![Lent::new(case.output).whole()]);
     let carried = case.carried();
