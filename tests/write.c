@@ -66,7 +66,7 @@ static uint8_t *nowhere;                                        /* NOWHERE bytes
 static const size_t NOWHERE = (size_t)1 << 37;                  /* a list of 2^32 rectangles has a quarter of it */
 static const uint8_t *at;                                       /* where the payload lies */
 static uint8_t wanted[AROUND + ROOM];                           /* an output, and what is beside it, as the other writer leaves it */
-static uint64_t made[SOURCES], answered[12], back[3], back_but_size, unread;
+static uint64_t made[SOURCES], answered[12], read_again, back[3], back_but_size, unread;
 static enum writer how;
 
 static int say_case(char *to, size_t room)
@@ -220,6 +220,7 @@ static bool same_parts(const uint8_t *bytes, const Part *p, const Given *g)
 static void read_written(const uint8_t *bytes, size_t length)
 {
     static const Given none;
+    read_again++;
     same(read_both(bytes, length) == 0 && reading.kind == given.kind, "kind read", "the ", reading.kind);
     for (int which = 0; which < 2; which++) {
         const Given *g = carried(which) ? &given.given[which] : &none;
@@ -396,9 +397,9 @@ static void show_smallest(void)
 static int summary(void)
 {
     if (differing) show_smallest();
-    printf("write: %llu written; refused with 6 %llu, with 7 %llu, with 8 %llu, with 11 %llu\n", (unsigned long long)answered[0],
-           (unsigned long long)answered[6], (unsigned long long)answered[7], (unsigned long long)answered[8],
-           (unsigned long long)answered[11]);
+    printf("write: %llu written, %llu of them read; refused with 6 %llu, with 7 %llu, with 8 %llu, with 11 %llu\n",
+           (unsigned long long)answered[0], (unsigned long long)read_again, (unsigned long long)answered[6],
+           (unsigned long long)answered[7], (unsigned long long)answered[8], (unsigned long long)answered[11]);
     printf("write: %llu payloads of kind 0, %llu of kind 1 and %llu of kind 2 written back to the same bytes, "
            "%llu to the same but for a size that was not the standard's; %llu were not read\n",
            (unsigned long long)back[0], (unsigned long long)back[1], (unsigned long long)back[2], (unsigned long long)back_but_size,
