@@ -4,8 +4,8 @@
 --
 --   Back s a kind l c           a reader's answer a gives back from s what was given: the kind, and the parts of each stream that is carried;
 --                               the other one stands nowhere
---   WriteReadEnds kind l c out  how a call ends that writes into out and reads what it wrote: by the definitions of the two calls, and with
---                               that where nothing was refused
+--   writeReadOf kind l c n      the answer of a call that writes into n bytes and reads what it wrote
+--   WriteReadEnds kind l c out  how that call ends: by the definitions of the two calls, and with `Back` where nothing was refused
 --   numbersIn bs                the numbers of 16 bits whose bytes these are
 --   givenIn s w                 the parts of a payload's stream, as they are given to a writer
 --   AllBelow k ns               each number is below k: bytes are below 256, numbers of 16 bits below 2^16

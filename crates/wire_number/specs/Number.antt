@@ -2,12 +2,13 @@
 -- pair for each rectangle, then 11 when the first stream carried, its count, rectangles and pairs included, is 2 to the power 30 bytes or
 -- longer or a rectangle count doesn't fit in 32 bits, then 6". "For kinds 1 and 2 the parts of the stream not carried are ignored."
 --
---   bytesFor z                   the bytes of a stream, its count, rectangles and pairs included
+--   bytesFor z                  the bytes of a stream, its count, rectangles and pairs included
 --   uneven z                    the list is not in fours, or there is not one pair for each rectangle
 --   countLarge z, streamLong z  the rectangle count does not fit in 32 bits; the stream is 2^30 bytes or longer
---   firstCarried kind l c            the first stream carried
---   payloadBytes kind l c       the bytes of the payload: its first number, and the streams that are carried
+--   firstCarried kind l c       the first stream carried
 --   lacks room z                a room is less than the stream's bytes
+--   payloadBytes kind l c       the bytes of the payload: its first number, and the streams that are carried
+--   listsWrong, tooLong, outputShort    7, 11 and 6, each of what is carried alone
 --   writeNumberOf kind l c n    the number of the call, where n bytes are lent for the output
 use Prim.Native.Nat.{ℕ, _+_, _*_, _/_, _%_, _^_}
 use mathlib.Core.Bool.{Bool, cond, not, _&&_, _||_}

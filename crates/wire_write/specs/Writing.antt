@@ -1,10 +1,12 @@
 -- Writing the AVC444 payload (document 02, E7): "From a kind, two rectangle lists, their quantiser and quality pairs and the H.264 bytes,
 -- write the payload of E1." "For kinds 1 and 2 the parts of the stream not carried are ignored. The count is the bytes written."
 --
---   Given, given            what is lent for a stream: a rectangle list, its pairs, its H.264 bytes
---   sizesGiven g               their lengths
---   sizeFor kind l          the size that the standard wants: the first stream's bytes in kinds 0 and 1, 0 in kind 2
---   payloadOf kind l c      the payload: its first number, and the streams that are carried
+--   Given, given                what is lent for a stream: a rectangle list, its pairs, its H.264 bytes
+--   sizesGiven g, partsGiven g  their lengths, and the parts of the stream that is written of them
+--   sizeFor kind l              the size that the standard wants: the first stream's bytes in kinds 0 and 1, 0 in kind 2
+--   Placed kind l c m e n       a payload has room in n bytes, and each number of it where it goes; luma ends at m, chroma at e
+--   payloadOf kind l c          the payload: its first number, and the streams that are carried
+--   givenNumberOf kind l c n    the number of the call, where n bytes are lent for the output
 --   WriteOutcome kind l c out   how the call ends, refusals included: the payload, and the output's bytes after it as they were
 use Prim.Native.Nat.{ℕ, _+_, _/_, _^_, _≤_, _<_}
 use mathlib.Core.Path.{_≡_}
@@ -37,7 +39,6 @@ partsGiven g = partsFrom (g .rects) (g .pairs) (g .h264)
 abbrev pub sizeFor : ℕ → Given → ℕ
 sizeFor kind l = cond (carriesLuma kind) (bytesFor (sizesGiven l)) 0
 
--- where the streams end in an output of n bytes that has room for the payload, and what the first number has room for
 pub record Placed (kind : ℕ) (l c : Given) (middle end n : ℕ) : Type 0 where
   pub luma-ends : middle ≡ 4 + sizeFor kind l
   pub chroma-ends : end ≡ middle + cond (carriesChroma kind) (bytesFor (sizesGiven c)) 0
