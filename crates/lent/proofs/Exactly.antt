@@ -1,11 +1,11 @@
 -- Tests as facts, "exactly when": a comparison, and a test of two tests. Assumes nothing.
 use Prim.Native.Nat.{ℕ, _<_, _≤_}
 use mathlib.Core.Path.{_≡_, refl}
-use mathlib.Core.Bool.{Bool, true, false, _||_, true≢false}
+use mathlib.Core.Bool.{Bool, true, false, _&&_, _||_, true≢false}
 use mathlib.Core.Logic.{_↔_, _⊎_, inl, inr, ⊎-elim, Iff·trans, Iff·and}
 use lib.Dec.{ltb}
 use borrow.Author.Tests.{ltb-true, ltb-false, lt-ltb, le-ltb}
-use Rattle.lent.proofs.Bools.{either, or-left, or-right}
+use Rattle.lent.proofs.Bools.{both, both-left, both-right, either, or-left, or-right}
 
 pub below : (a b : ℕ) → (ltb a b ≡ true) ↔ (a < b)
 below a b = (ltb-true a b, lt-ltb a b)
@@ -20,6 +20,10 @@ module _ (s t : Bool) {P Q : Type 0} where
     λ e. ⊎-elim (λ h. inl (f .0 h)) (λ h. inr (g .0 h)) (either s t e),
     ⊎-elim (λ h. or-left s t (f .1 h)) (λ h. or-right s t (g .1 h)),
   )
+
+-- a test of both holds where both do
+pub and-exactly : (s t : Bool) {P Q : Type 0} → (s ≡ true) ↔ P → (t ≡ true) ↔ Q → ((s && t) ≡ true) ↔ (P × Q)
+and-exactly s t f g = (λ e. (f .0 (both-left s t e), g .0 (both-right s t e)), λ h. both s t (f .1 (h .0)) (g .1 (h .1)))
 
 pub nor : (s t : Bool) → ((s || t) ≡ false) ↔ ((s ≡ false) × (t ≡ false))
 nor true t = (λ e. absurd (true≢false e), λ h. h .0)

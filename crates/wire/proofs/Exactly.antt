@@ -11,8 +11,7 @@ use lib.Dec.{ltb, eqb}
 use lib.ListN.{length}
 use borrow.Author.Tests.{ltb-true, ltb-false, lt-ltb, le-ltb, eq-eqb, ne-eqb, eqb-true, eqb-false}
 use Rattle.lent.specs.Refusal.{refusal}
-use Rattle.lent.proofs.Bools.{both, both-left, both-right}
-use Rattle.lent.proofs.Exactly.{or-exactly, nor}
+use Rattle.lent.proofs.Exactly.{and-exactly, or-exactly, nor}
 use Rattle.lent.proofs.Outcome.{outcome-unique}
 use Rattle.lent.specs.Outcome.{Outcome}
 use Rattle.lent.proofs.Refusal.{refusal-exactly, refusal-none}
@@ -42,10 +41,9 @@ module _ (s : List ℕ) where
   past-exactly = or-exactly _ _ (one (carriesLuma (kindOf s)) 4 (lumaEnd s)) (one (carriesChroma (kindOf s)) (chromaStart s) (length s))
     where
       one : (is : Bool) (a e : ℕ) → ((is && pastEnd s a e) ≡ true) ↔ ((is ≡ true) × (e < a + 4 + 10 * u32At s a))
-      one is a e = (
-        λ h. (both-left is _ h, ltb-true e _ (sym (pastEnd-is s a e) ∙ both-right is _ h)),
-        λ h. both is _ (h .0) (pastEnd-is s a e ∙ lt-ltb e _ (h .1)),
-      )
+      one is a e =
+          and-exactly is (pastEnd s a e) (λ h. h, λ h. h)
+          (λ h. ltb-true e _ (sym (pastEnd-is s a e) ∙ h), λ h. pastEnd-is s a e ∙ lt-ltb e _ h)
 
   pub read-0-exactly : (readNumberOf s ≡ 0) ↔ (Good s × (streamsPast s ≡ false))
   unfolding readNumberOf

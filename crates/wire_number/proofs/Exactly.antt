@@ -3,13 +3,12 @@
 use Prim.Native.Nat.{ℕ, _*_, _/_, _%_, _^_, _≤_, _<_}
 use native.Mathlib.Omega.{arith}
 use mathlib.Core.Path.{_≡_, refl, ap}
-use mathlib.Core.Bool.{Bool, true, false, not, _&&_, true≢false, false≢true}
+use mathlib.Core.Bool.{Bool, true, false, not, true≢false, false≢true}
 use mathlib.Core.Logic.{_↔_, _⊎_, Iff·trans}
 use mathlib.Core.List.{[], _∷_}
 use lib.Dec.{ltb, leb, eqb}
 use borrow.Author.Tests.{ltb-true, ltb-false, lt-ltb, le-ltb, leb-true, le-leb, eqb-true, eqb-false, eq-eqb, ne-eqb}
-use Rattle.lent.proofs.Bools.{both, both-left, both-right}
-use Rattle.lent.proofs.Exactly.{or-exactly, nor-exactly}
+use Rattle.lent.proofs.Exactly.{and-exactly, or-exactly, nor-exactly}
 use Rattle.lent.proofs.Refusal.{refusal-exactly}
 use Rattle.wire.specs.Reading.{carriesLuma, carriesChroma}
 use Rattle.wire_number.specs.declared.StreamSizes.{StreamSizes}
@@ -38,21 +37,17 @@ module _ (z : StreamSizes) where
   pub even-exactly : (uneven z ≡ false) ↔ ((z .rects % 4 ≡ 0) × (z .pairs ≡ 2 * (z .rects / 4)))
   even-exactly = nor-exactly _ _ (same (z .rects % 4) 0) (same (z .pairs) (2 * (z .rects / 4)))
 
--- a test of a stream, where it is carried
-carried : (is t : Bool) {P : Type 0} → (t ≡ true) ↔ P → ((is && t) ≡ true) ↔ ((is ≡ true) × P)
-carried is t f = (λ h. (both-left is t h, f .0 (both-right is t h)), λ h. both is t (h .0) (f .1 (h .1)))
-
 module _ (kind : ℕ) (l c : StreamSizes) where
   -- a stream that is carried and whose list is not in fours, or lacks a pair or has one too many
   pub lists-exactly : (listsWrong kind l c ≡ true) ↔ (((carriesLuma kind ≡ true) × (uneven l ≡ true)) ⊎ ((carriesChroma kind ≡ true) × (uneven c ≡ true)))
-  lists-exactly = or-exactly _ _ (carried (carriesLuma kind) (uneven l) (λ e. e, λ e. e)) (carried (carriesChroma kind) (uneven c) (λ e. e, λ e. e))
+  lists-exactly = or-exactly _ _ (and-exactly (carriesLuma kind) (uneven l) (λ e. e, λ e. e) (λ e. e, λ e. e)) (and-exactly (carriesChroma kind) (uneven c) (λ e. e, λ e. e) (λ e. e, λ e. e))
 
   pub too-long-exactly : (tooLong kind l c ≡ true)
       ↔ ((2 ^ 30 ≤ bytesFor (firstCarried kind l c))
       ⊎ (((carriesLuma kind ≡ true) × (2 ^ 32 ≤ l .rects / 4)) ⊎ ((carriesChroma kind ≡ true) × (2 ^ 32 ≤ c .rects / 4))))
   too-long-exactly =
       or-exactly _ _ (at-least (2 ^ 30) (bytesFor (firstCarried kind l c)))
-      (or-exactly _ _ (carried (carriesLuma kind) (countLarge l) (at-least (2 ^ 32) (l .rects / 4))) (carried (carriesChroma kind) (countLarge c) (at-least (2 ^ 32) (c .rects / 4))))
+      (or-exactly _ _ (and-exactly (carriesLuma kind) (countLarge l) (λ e. e, λ e. e) (at-least (2 ^ 32) (l .rects / 4))) (and-exactly (carriesChroma kind) (countLarge c) (λ e. e, λ e. e) (at-least (2 ^ 32) (c .rects / 4))))
     where
       at-least : (a b : ℕ) → (leb a b ≡ true) ↔ (a ≤ b)
       at-least a b = (leb-true a b, le-leb a b)
