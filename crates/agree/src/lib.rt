@@ -4,6 +4,8 @@
 // and all other chroma is as before (agree_law/specs/Agrees.antt). `both` finds the first number that a step of either walk would give before
 // it writes anything; a refusal changes no byte. Number and every lent byte are equations (agree_law/specs/Both.antt), and 0 comes with
 // the theorem of both.
+pub mod one; // one layout's calls
+
 ghost use mathlib.Core.Path.{_≡_};
 ghost use Rattle.split.specs.Split.{planes, splitNumberOf};
 ghost use Rattle.agree_law.specs.Through.{firstOf, earlierNumberOf};
@@ -24,11 +26,11 @@ fn both_number(
 ) -> u32
     ensures { λ r. ⌜ r ≡ firstOf (firstOf (splitNumberOf size from main aux) (earlierNumberOf size first nr)) (firstOf (splitNumberOf size from main aux) (earlierNumberOf size second nr)) ⌝ }
 {
-    let number = agree_one::through_number(size, from, main, aux, first, nr);
+    let number = crate::one::through_number(size, from, main, aux, first, nr);
     if number != 0 {
         return number;
     }
-    agree_one::through_number(size, from, main, aux, second, nr)
+    crate::one::through_number(size, from, main, aux, second, nr)
 }
 
 // Split as V1 onto the first earlier picture, then as V2 onto the second, over one list. The views' six buffers are the caller's, and are
@@ -83,7 +85,7 @@ pub fn both(
     if number != 0 {
         return lent::Answer { number, count: 0 };
     }
-    agree_one::through(
+    crate::one::through(
         Layout::V1,
         size,
         y,
@@ -100,7 +102,7 @@ pub fn both(
         first_u,
         first_v,
     );
-    agree_one::through(
+    crate::one::through(
         Layout::V2,
         size,
         y,

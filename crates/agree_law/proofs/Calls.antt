@@ -21,9 +21,9 @@ use Rattle.layout.specs.Maps.{Part, PY, PU, PV, place, partOf, maps}
 use Rattle.layout.specs.Exists.{side, fed}
 use Rattle.layout.proofs.Fed.{maps-fed}
 use Rattle.rects.specs.Rects.{taken, area}
-use Rattle.combine.specs.Main.{mainLuma, mainChroma, halved, chromaAfter}
-use Rattle.auxiliary_rows.specs.Rows.{partSample, auxSource}
-use Rattle.auxiliary.specs.Auxiliary.{auxIn, auxRule, auxAfter}
+use Rattle.apply_main.specs.Main.{mainLuma, mainChroma, halved, chromaAfter}
+use Rattle.apply_auxiliary_rows.specs.Rows.{partSample, auxSource}
+use Rattle.apply_auxiliary.specs.Auxiliary.{auxIn, auxRule, auxAfter}
 use Rattle.split_views.specs.Fits.{Room}
 use Rattle.split.specs.Split.{Planes, mainSample, auxSample, viewAfter}
 use Rattle.agree_law.specs.Agrees.{pictureOf, widened, Agrees}

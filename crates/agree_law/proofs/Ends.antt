@@ -13,9 +13,9 @@ use Rattle.view.specs.declared.View.{View}
 use Rattle.layout.specs.declared.Layout.{Layout}
 use Rattle.layout.specs.declared.Layout.the-variants.{V1, V2}
 use Rattle.rects.specs.Number.{lentNumberOf}
-use Rattle.combine.specs.Main.{mainBuffersOf, MainOutcome}
-use Rattle.auxiliary.specs.Auxiliary.{auxBuffersOf, AuxOutcome}
-use Rattle.split_number.specs.declared.Views.{Views}
+use Rattle.apply_main.specs.Main.{mainBuffersOf, MainOutcome}
+use Rattle.apply_auxiliary.specs.Auxiliary.{auxBuffersOf, AuxOutcome}
+use Rattle.split.specs.declared.number.Views.{Views}
 use Rattle.split.specs.Split.{Planes, lengthsOf, mainSample, auxSample, viewAfter, splitNumberOf, splitAnswerOf, splitBuffersOf, SplitEnds}
 use Rattle.agree_law.specs.Agrees.{pictureOf, Agrees}
 use Rattle.agree_law.specs.Through.{buffersIn, threeOf, viewOf, viewIn, mainViewOf, auxViewOf, withMain, throughOf, firstOf, applyNumberOn, throughNumberOf, earlierNumberOf, planesAfter, throughBuffersOf, ThroughEnds}

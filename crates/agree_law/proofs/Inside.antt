@@ -11,9 +11,9 @@ use Rattle.picture.specs.declared.Size.{Size}
 use Rattle.picture.specs.Sizes.{strideOf, rowsOf}
 use Rattle.view.specs.declared.View.{View}
 use Rattle.rects.specs.Rects.{Rule, rectAtOf, nth, taken, area}
-use Rattle.combine.specs.Main.{mainLuma}
+use Rattle.apply_main.specs.Main.{mainLuma}
 use Rattle.rects.proofs.Rects.{taken-facts, taken-holds, area-facts}
-use Rattle.combine.proofs.Main.{mainLuma-facts, mainLuma-holds}
+use Rattle.apply_main.proofs.Main.{mainLuma-facts, mainLuma-holds}
 use Rattle.agree_law.specs.Agrees.{inRect, inside, widened}
 
 -- a rule is another one with a test beside it

@@ -23,11 +23,11 @@ use Rattle.view.proofs.Exactly.{narrow-none}
 use Rattle.layout.specs.declared.Layout.{Layout}
 use Rattle.layout.specs.declared.Layout.the-variants.{V1, V2}
 use Rattle.rects.specs.Number.{notFours, applyNumberOf}
-use Rattle.split_number.specs.declared.PlaneLengths.{PlaneLengths}
+use Rattle.split.specs.declared.number.PlaneLengths.{PlaneLengths}
 use Rattle.split_views.specs.Fits.{Room}
 use Rattle.split.specs.Split.{Planes, lengthsOf, viewShort, splitNumberOf}
 use Rattle.split.proofs.Calls.{view-room}
-use Rattle.split_number.proofs.Exactly.{split-0-exactly, small-exactly}
+use Rattle.split.proofs.Exactly.{split-0-exactly, small-exactly}
 use Rattle.agree_law.specs.Through.{viewOf, mainViewOf, auxViewOf, withMain, firstOf, applyNumberOn, throughNumberOf, earlierNumberOf, Lent}
 use Rattle.agree_law.specs.Both.{bothNumberOf}
 

@@ -19,7 +19,7 @@ use Rattle.layout.specs.declared.Chroma.the-variants.{CU, CV}
 use Rattle.layout.specs.Maps.{Part, PY, PU, PV, Place, Spot, Maps, place, spot, partOf}
 use Rattle.layout.specs.Exists.{side, present, leftOut}
 use Rattle.rects.specs.Rects.{taken}
-use Rattle.combine.specs.Main.{mainLuma}
+use Rattle.apply_main.specs.Main.{mainLuma}
 use Rattle.agree_law.specs.Agrees.{Picture, widened}
 
 abbrev pub ViewSamples : Type 0

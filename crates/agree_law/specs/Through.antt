@@ -31,10 +31,10 @@ use Rattle.picture.specs.Sizes.{strideOf, rowsOf, planesShort, PlanesFit}
 use Rattle.view.specs.declared.View.{View}
 use Rattle.layout.specs.declared.Layout.{Layout}
 use Rattle.rects.specs.Number.{notFours, lentNumberOf}
-use Rattle.combine.specs.Main.{mainBuffersOf}
-use Rattle.auxiliary.specs.Auxiliary.{auxBuffersOf}
-use Rattle.split_number.specs.declared.PlaneLengths.{PlaneLengths}
-use Rattle.split_number.specs.declared.Views.{Views}
+use Rattle.apply_main.specs.Main.{mainBuffersOf}
+use Rattle.apply_auxiliary.specs.Auxiliary.{auxBuffersOf}
+use Rattle.split.specs.declared.number.PlaneLengths.{PlaneLengths}
+use Rattle.split.specs.declared.number.Views.{Views}
 use Rattle.split_views.specs.Fits.{Room}
 use Rattle.split.specs.Split.{Planes, planes, lengthsOf, mainSample, auxSample, viewAfter, splitNumberOf}
 use Rattle.agree_law.specs.Agrees.{pictureOf, Agrees}

@@ -40,7 +40,7 @@ fn bytes(s: &[u8]) {
 
 // The form of a payload, in words.
 fn form(data: &[u8]) {
-    if payload::is_avc_format(data) {
+    if annex_b::is_avc_format(data) {
         io::write_all(STDOUT_FILENO, b": length-prefixed");
     } else {
         io::write_all(STDOUT_FILENO, b": Annex B");
@@ -50,7 +50,7 @@ fn form(data: &[u8]) {
 // A line `payload bytes: form,` and the bytes that the conversion writes.
 fn unit(data: &[u8]) {
     let mut out = [0u8; 6];
-    let answer = payload::avc_to_annex_b_into(data, &mut out);
+    let answer = annex_b::avc_to_annex_b_into(data, &mut out);
     io::write_all(STDOUT_FILENO, b"payload");
     bytes(data);
     form(data);
@@ -122,7 +122,7 @@ fn rectangle(rect: &[u16], col: usize)
     };
     let luma = [1u8; 256];
     let chroma = [1u8; 64];
-    combine::apply_main_view(
+    apply_main::apply_main_view(
         size,
         &mut y,
         &mut u,
@@ -160,7 +160,7 @@ fn v1_16x12() {
     let luma = [1u8; 192];
     let chroma = [1u8; 48];
     let rect = [0u16, 0, 16, 12];
-    auxiliary::apply_auxiliary_v1(
+    apply_auxiliary::apply_auxiliary_v1(
         size,
         &mut y,
         &mut u,
@@ -196,7 +196,7 @@ fn v2_width_20() {
     let luma = [1u8; 80];
     let chroma = [1u8; 20];
     let rect = [0u16, 0, 20, 4];
-    auxiliary::apply_auxiliary_v2(
+    apply_auxiliary::apply_auxiliary_v2(
         size,
         &mut y,
         &mut u,

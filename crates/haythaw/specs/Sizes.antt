@@ -6,7 +6,7 @@
 use Prim.Native.Nat.{ℕ}
 use Rattle.view.specs.declared.View.{View}
 use Rattle.picture.specs.declared.Size.{Size}
-use Rattle.convert.specs.declared.Rect.{Rect}
+use Rattle.to_rgba.specs.declared.Rect.{Rect}
 
 abbrev pub sizesOf : ℕ → ℕ → ℕ → ℕ → View
 sizesOf w h luma chroma = record { width = w; height = h; «luma_stride» = luma; «chroma_stride» = chroma }

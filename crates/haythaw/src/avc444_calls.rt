@@ -2,50 +2,50 @@
 // payload written.
 ghost use mathlib.Core.List.{[], _∷_};
 ghost use Rattle.lent.specs.Outcome.{Outcome};
-ghost use Rattle.wire.specs.Reading.{readOf};
-ghost use Rattle.wire_parts.specs.Parts.{CopyOutcome, rectangleAtOf, pairAtOf};
-ghost use Rattle.wire_parts.specs.declared.Which.the-variants.{Luma, Chroma};
+ghost use Rattle.wire_read.specs.Reading.{readOf};
+ghost use Rattle.wire_read.specs.Parts.{CopyOutcome, rectangleAtOf, pairAtOf};
+ghost use Rattle.wire_read.specs.declared.parts.Which.the-variants.{Luma, Chroma};
 ghost use Rattle.wire_write.specs.Writing.{given, WriteOutcome};
-use wire_parts::Which;
+use wire_read::parts::Which;
 
 // Which streams a payload carries, and where their parts stand in it. 0, 9, 8 or 10.
 #[no_mangle]
-pub extern "C" fn haythaw_avc444_read(payload: &[u8]) -> wire::Avc444
+pub extern "C" fn haythaw_avc444_read(payload: &[u8]) -> wire_read::Avc444
     ensures { λ r. ⌜ Outcome (readOf (now (payload .entry))) [] r [] ⌝ }
 {
-    wire::read(payload)
+    wire_read::read(payload)
 }
 
 // Rectangle i of the luma stream. 0, 9, 8 or 10.
 #[no_mangle]
-pub extern "C" fn haythaw_avc444_luma_rectangle(payload: &[u8], i: usize) -> wire_parts::Rectangle
+pub extern "C" fn haythaw_avc444_luma_rectangle(payload: &[u8], i: usize) -> wire_read::parts::Rectangle
     ensures { λ r. ⌜ Outcome (rectangleAtOf (now (payload .entry)) Luma i) [] r [] ⌝ }
 {
-    wire_parts::rectangle_at(payload, Which::Luma, i)
+    wire_read::parts::rectangle_at(payload, Which::Luma, i)
 }
 
 // Rectangle i of the chroma stream. 0, 9, 8 or 10.
 #[no_mangle]
-pub extern "C" fn haythaw_avc444_chroma_rectangle(payload: &[u8], i: usize) -> wire_parts::Rectangle
+pub extern "C" fn haythaw_avc444_chroma_rectangle(payload: &[u8], i: usize) -> wire_read::parts::Rectangle
     ensures { λ r. ⌜ Outcome (rectangleAtOf (now (payload .entry)) Chroma i) [] r [] ⌝ }
 {
-    wire_parts::rectangle_at(payload, Which::Chroma, i)
+    wire_read::parts::rectangle_at(payload, Which::Chroma, i)
 }
 
 // Pair i of the luma stream. 0, 9, 8 or 10.
 #[no_mangle]
-pub extern "C" fn haythaw_avc444_luma_pair(payload: &[u8], i: usize) -> wire_parts::Pair
+pub extern "C" fn haythaw_avc444_luma_pair(payload: &[u8], i: usize) -> wire_read::parts::Pair
     ensures { λ r. ⌜ Outcome (pairAtOf (now (payload .entry)) Luma i) [] r [] ⌝ }
 {
-    wire_parts::pair_at(payload, Which::Luma, i)
+    wire_read::parts::pair_at(payload, Which::Luma, i)
 }
 
 // Pair i of the chroma stream. 0, 9, 8 or 10.
 #[no_mangle]
-pub extern "C" fn haythaw_avc444_chroma_pair(payload: &[u8], i: usize) -> wire_parts::Pair
+pub extern "C" fn haythaw_avc444_chroma_pair(payload: &[u8], i: usize) -> wire_read::parts::Pair
     ensures { λ r. ⌜ Outcome (pairAtOf (now (payload .entry)) Chroma i) [] r [] ⌝ }
 {
-    wire_parts::pair_at(payload, Which::Chroma, i)
+    wire_read::parts::pair_at(payload, Which::Chroma, i)
 }
 
 // The rectangles of the luma stream as an apply call takes them, and how many numbers were written. 0, 9, 8, 10 or 6.
@@ -53,7 +53,7 @@ pub extern "C" fn haythaw_avc444_chroma_pair(payload: &[u8], i: usize) -> wire_p
 pub extern "C" fn haythaw_avc444_luma_rects(payload: &[u8], out: &mut [u16]) -> lent::Answer
     ensures { λ r. ⌜ CopyOutcome (now (payload .entry)) Luma (now (out .entry)) r (now (out .exit) ∷ []) ⌝ }
 {
-    wire_parts::copy_rects(payload, Which::Luma, out)
+    wire_read::parts::copy_rects(payload, Which::Luma, out)
 }
 
 // The rectangles of the chroma stream as an apply call takes them, and how many numbers were written. 0, 9, 8, 10 or 6.
@@ -61,7 +61,7 @@ pub extern "C" fn haythaw_avc444_luma_rects(payload: &[u8], out: &mut [u16]) -> 
 pub extern "C" fn haythaw_avc444_chroma_rects(payload: &[u8], out: &mut [u16]) -> lent::Answer
     ensures { λ r. ⌜ CopyOutcome (now (payload .entry)) Chroma (now (out .entry)) r (now (out .exit) ∷ []) ⌝ }
 {
-    wire_parts::copy_rects(payload, Which::Chroma, out)
+    wire_read::parts::copy_rects(payload, Which::Chroma, out)
 }
 
 // The payload of a kind (0 both streams, 1 luma only, 2 chroma only), rectangles in fours, two bytes of pair for each, and the H.264

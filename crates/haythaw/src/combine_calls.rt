@@ -2,8 +2,8 @@
 ghost use mathlib.Core.List.{[], _∷_};
 ghost use Rattle.lent.specs.Outcome.{answerOf};
 ghost use Rattle.layout.specs.declared.Layout.the-variants.{V1, V2};
-ghost use Rattle.combine.specs.Main.{MainOutcome};
-ghost use Rattle.auxiliary.specs.Auxiliary.{AuxOutcome};
+ghost use Rattle.apply_main.specs.Main.{MainOutcome};
+ghost use Rattle.apply_auxiliary.specs.Auxiliary.{AuxOutcome};
 ghost use Rattle.haythaw.specs.Sizes.{sizesOf, sizeOf};
 use picture::Size;
 use view::View;
@@ -37,7 +37,7 @@ pub extern "C" fn haythaw_apply_main_view(
         chroma_stride,
     };
     let size = Size { width, height };
-    combine::apply_main_view(size, y, u, v, rects, w, view_y, view_u, view_v).number
+    apply_main::apply_main_view(size, y, u, v, rects, w, view_y, view_u, view_v).number
 }
 
 // The auxiliary view of layout V1: the chroma that the main view leaves out, within the blocks that the rectangles touch; Y is lent and
@@ -70,7 +70,7 @@ pub extern "C" fn haythaw_apply_auxiliary_v1(
         chroma_stride,
     };
     let size = Size { width, height };
-    auxiliary::apply_auxiliary_v1(size, y, u, v, rects, w, view_y, view_u, view_v).number
+    apply_auxiliary::apply_auxiliary_v1(size, y, u, v, rects, w, view_y, view_u, view_v).number
 }
 
 // The auxiliary view of layout V2: the chroma that the main view leaves out, within the blocks that the rectangles touch; Y is lent and
@@ -103,5 +103,5 @@ pub extern "C" fn haythaw_apply_auxiliary_v2(
         chroma_stride,
     };
     let size = Size { width, height };
-    auxiliary::apply_auxiliary_v2(size, y, u, v, rects, w, view_y, view_u, view_v).number
+    apply_auxiliary::apply_auxiliary_v2(size, y, u, v, rects, w, view_y, view_u, view_v).number
 }

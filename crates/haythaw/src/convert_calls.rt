@@ -3,10 +3,10 @@ ghost use mathlib.Core.List.{[], _∷_};
 ghost use lib.ListN.{length};
 ghost use Rattle.colour.specs.Colour.{reverseOf};
 ghost use Rattle.lent.specs.Outcome.{Outcome, answerOf, lentAfter};
-ghost use Rattle.convert.specs.Picture.{toRgbaCountOf, toRgbaNumberOf, toRgbaOf};
-ghost use Rattle.convert.specs.View.{viewToRgbaCountOf, viewToRgbaNumberOf, viewToRgbaOf};
+ghost use Rattle.to_rgba.specs.Picture.{toRgbaCountOf, toRgbaNumberOf, toRgbaOf};
+ghost use Rattle.to_rgba.specs.View.{viewToRgbaCountOf, viewToRgbaNumberOf, viewToRgbaOf};
 ghost use Rattle.haythaw.specs.Sizes.{sizesOf, sizeOf, rectOf};
-use convert::Rect;
+use to_rgba::Rect;
 use picture::Size;
 use view::View;
 
@@ -39,7 +39,7 @@ pub extern "C" fn haythaw_to_rgba(
         right,
         bottom,
     };
-    convert::to_rgba(Size { width, height }, y, u, v, rect, out)
+    to_rgba::to_rgba(Size { width, height }, y, u, v, rect, out)
 }
 
 // The view as RGBA, and how many bytes were written; or 3, 4 or 6.
@@ -72,5 +72,5 @@ pub extern "C" fn haythaw_view_to_rgba(
         luma_stride,
         chroma_stride,
     };
-    convert::view_to_rgba(w, view_y, view_u, view_v, out)
+    to_rgba::view_to_rgba(w, view_y, view_u, view_v, out)
 }

@@ -5,7 +5,7 @@ ghost use lib.ListN.{length};
 ghost use Rattle.lent.specs.Outcome.{Outcome, answerOf};
 ghost use Rattle.picture.specs.Sizes.{allocationSizeOf};
 ghost use Rattle.picture.specs.New.{newNumberOf, newBuffersOf};
-ghost use Rattle.picture.specs.FromRgba.{fromNumberOf, fromBuffersOf};
+ghost use Rattle.from_rgba.specs.FromRgba.{fromNumberOf, fromBuffersOf};
 ghost use Rattle.haythaw.specs.Sizes.{sizeOf};
 use picture::Size;
 
@@ -48,5 +48,5 @@ pub extern "C" fn haythaw_from_rgba(
         (fromBuffersOf (now (rgba .entry)) (sizeOf width height) (now (y .entry)) (now (u .entry)) (now (v .entry)))
         (answerOf r 0) (now (y .exit) ∷ now (u .exit) ∷ now (v .exit) ∷ []) ⌝ }
 {
-    picture::from_rgba(rgba, Size { width, height }, y, u, v).number
+    from_rgba::from_rgba(rgba, Size { width, height }, y, u, v).number
 }

@@ -4,7 +4,7 @@ ghost use mathlib.Core.List.{[]};
 ghost use lib.ListN.{length};
 ghost use Rattle.lent.specs.Outcome.{Outcome};
 ghost use Rattle.view.specs.View.{lumaOf, chromaOf, viewNumberOf};
-ghost use Rattle.view_rows.specs.Rows.{rowAnswerOf};
+ghost use Rattle.view.specs.Rows.{rowAnswerOf};
 ghost use Rattle.haythaw.specs.Sizes.{sizesOf};
 use view::View;
 
@@ -42,7 +42,7 @@ pub extern "C" fn haythaw_luma_row(
     view_u: &[u8],
     view_v: &[u8],
     row: usize,
-) -> view_rows::Row
+) -> view::rows::Row
     ensures { λ r. ⌜ Outcome (rowAnswerOf (viewNumberOf (sizesOf «view_width» «view_height» «luma_stride» «chroma_stride»)
         (length (now («view_y» .entry))) (length (now («view_u» .entry))) (length (now («view_v» .entry))))
         (lumaOf (sizesOf «view_width» «view_height» «luma_stride» «chroma_stride»)) row) [] r [] ⌝ }
@@ -53,7 +53,7 @@ pub extern "C" fn haythaw_luma_row(
         luma_stride: luma_stride,
         chroma_stride: chroma_stride,
     };
-    view_rows::luma_row_answer(w, view_y, view_u, view_v, row)
+    view::rows::luma_row_answer(w, view_y, view_u, view_v, row)
 }
 
 // The place of a row of U in view_u.
@@ -67,7 +67,7 @@ pub extern "C" fn haythaw_u_row(
     view_u: &[u8],
     view_v: &[u8],
     row: usize,
-) -> view_rows::Row
+) -> view::rows::Row
     ensures { λ r. ⌜ Outcome (rowAnswerOf (viewNumberOf (sizesOf «view_width» «view_height» «luma_stride» «chroma_stride»)
         (length (now («view_y» .entry))) (length (now («view_u» .entry))) (length (now («view_v» .entry))))
         (chromaOf (sizesOf «view_width» «view_height» «luma_stride» «chroma_stride»)) row) [] r [] ⌝ }
@@ -78,7 +78,7 @@ pub extern "C" fn haythaw_u_row(
         luma_stride: luma_stride,
         chroma_stride: chroma_stride,
     };
-    view_rows::u_row_answer(w, view_y, view_u, view_v, row)
+    view::rows::u_row_answer(w, view_y, view_u, view_v, row)
 }
 
 // The place of a row of V in view_v.
@@ -92,7 +92,7 @@ pub extern "C" fn haythaw_v_row(
     view_u: &[u8],
     view_v: &[u8],
     row: usize,
-) -> view_rows::Row
+) -> view::rows::Row
     ensures { λ r. ⌜ Outcome (rowAnswerOf (viewNumberOf (sizesOf «view_width» «view_height» «luma_stride» «chroma_stride»)
         (length (now («view_y» .entry))) (length (now («view_u» .entry))) (length (now («view_v» .entry))))
         (chromaOf (sizesOf «view_width» «view_height» «luma_stride» «chroma_stride»)) row) [] r [] ⌝ }
@@ -103,5 +103,5 @@ pub extern "C" fn haythaw_v_row(
         luma_stride: luma_stride,
         chroma_stride: chroma_stride,
     };
-    view_rows::v_row_answer(w, view_y, view_u, view_v, row)
+    view::rows::v_row_answer(w, view_y, view_u, view_v, row)
 }

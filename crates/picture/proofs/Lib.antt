@@ -2,4 +2,3 @@
 pub mod Sizes
 pub mod Calls
 pub mod NewOutcome
-pub mod FromOutcome

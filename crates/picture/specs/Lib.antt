@@ -1,4 +1,3 @@
 -- A 4:4:4 picture over three lent planes.
 pub mod Sizes
 pub mod New
-pub mod FromRgba

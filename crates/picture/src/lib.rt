@@ -1,8 +1,8 @@
-// The 4:4:4 picture: a size record by value beside three lent planes (ports `Yuv444Frame`: new, from_rgba, sizes).
+// The 4:4:4 picture: a size record by value beside three lent planes (ports `Yuv444Frame`: new, sizes).
 //
 // Stride and rows are width and height rounded up to 16, always worked out from the size. A plane is the first stride x rows bytes of
-// its lent buffer; bytes after it never change. `new` and `from_rgba` promise their number and every byte of the three buffers, for
-// every size and every length: a refusal alters nothing.
+// its lent buffer; bytes after it never change. `new` promises its number and every byte of the three buffers, for every size and every
+// length: a refusal alters nothing.
 ghost use mathlib.Core.Path.{_≡_};
 ghost use mathlib.Core.List.{[], _∷_};
 ghost use Prim.Native.Nat.{_*_, _≤_};
@@ -11,7 +11,6 @@ ghost use Rattle.lent.specs.Outcome.{Outcome, answerOf};
 ghost use Rattle.lent.specs.Paint.{painted, whole};
 ghost use Rattle.picture.specs.Sizes.{strideOf, rowsOf, allocationSizeOf, planesShort};
 ghost use Rattle.picture.specs.New.{newNumberOf, newBuffersOf};
-ghost use Rattle.picture.specs.FromRgba.{rgbaShort, fromNumberOf, fromBuffersOf};
 
 // A picture's width and height in pixels.
 pub struct Size {
@@ -89,47 +88,6 @@ pub fn new(size: Size, y: &mut [u8], u: &mut [u8], v: &mut [u8]) -> lent::Answer
     fill_plane(y, stride, rows, 0);
     fill_plane(u, stride, rows, 128);
     fill_plane(v, stride, rows, 128);
-    lent::Answer {
-        number: 0,
-        count: 0,
-    }
-}
-
-// Refusal 2: n bytes of RGBA are fewer than width x height x 4.
-fn rgba_short(size: Size, n: usize) -> bool
-    ensures { λ r. ⌜ r ≡ rgbaShort size n ⌝ }
-{
-    let width = size.width as usize;
-    let height = size.height as usize;
-    n < width * height * 4
-}
-
-// The number of `from_rgba`: 2, 1 or 0.
-fn from_number(size: Size, n: usize, ny: usize, nu: usize, nv: usize) -> u32
-    ensures { λ r. ⌜ r ≡ fromNumberOf size n ny nu nv ⌝ }
-{
-    if rgba_short(size, n) {
-        return 2;
-    }
-    if planes_short(size, ny, nu, nv) {
-        return 1;
-    }
-    0
-}
-
-// A picture from width x height pixels of four bytes; what follows them, and their alpha, is ignored. Ports `Yuv444Frame::from_rgba`.
-pub fn from_rgba(rgba: &[u8], size: Size, y: &mut [u8], u: &mut [u8], v: &mut [u8]) -> lent::Answer
-    ensures { λ r. ⌜ Outcome (answerOf (fromNumberOf size (length (now (rgba .entry))) (length (now (y .entry))) (length (now (u .entry))) (length (now (v .entry)))) 0) (fromBuffersOf (now (rgba .entry)) size (now (y .entry)) (now (u .entry)) (now (v .entry))) r (now (y .exit) ∷ now (u .exit) ∷ now (v .exit) ∷ []) ⌝ }
-{
-    let number = from_number(size, rgba.len(), y.len(), u.len(), v.len());
-    if number != 0 {
-        return lent::Answer { number, count: 0 };
-    }
-    rgba_rows::convert_planes(rgba, size.width, size.height, y, u, v);
-    let stride = stride(size);
-    let rows = rows(size);
-    averages::average_plane(u, stride, rows);
-    averages::average_plane(v, stride, rows);
     lent::Answer {
         number: 0,
         count: 0,

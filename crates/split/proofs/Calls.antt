@@ -13,9 +13,9 @@ use Rattle.picture.specs.declared.Size.{Size}
 use Rattle.picture.specs.Sizes.{strideOf, rowsOf}
 use Rattle.picture.proofs.Sizes.{planes-fit}
 use Rattle.layout.specs.declared.Layout.{Layout}
-use Rattle.split_number.specs.declared.PlaneLengths.{PlaneLengths}
-use Rattle.split_number.specs.declared.Views.{Views}
-use Rattle.split_number.proofs.Exactly.{split-0-exactly}
+use Rattle.split.specs.declared.number.PlaneLengths.{PlaneLengths}
+use Rattle.split.specs.declared.number.Views.{Views}
+use Rattle.split.proofs.Exactly.{split-0-exactly}
 use Rattle.split.specs.Split.{Planes, lengthsOf, mainSample, auxSample, tooLarge, viewShort, splitNumberOf, splitAnswerOf, splitBuffersOf, Written, SplitEnds}
 use Rattle.split_views.specs.Fits.{Whole, Room}
 use Rattle.split.specs.Accepted.{Accepted}

@@ -20,9 +20,9 @@ use Rattle.picture.specs.declared.Size.{Size}
 use Rattle.picture.specs.Sizes.{strideOf, rowsOf, planesShort}
 use Rattle.layout.specs.Maps.{Part, PY, PU, PV}
 use Rattle.layout.specs.declared.Layout.{Layout}
-use Rattle.split_number.specs.declared.PlaneLengths.{PlaneLengths}
-use Rattle.split_number.specs.declared.Views.{Views}
-use Rattle.split_number.proofs.Exactly.{small-exactly, split-5-plainly, split-0-exactly}
+use Rattle.split.specs.declared.number.PlaneLengths.{PlaneLengths}
+use Rattle.split.specs.declared.number.Views.{Views}
+use Rattle.split.proofs.Exactly.{small-exactly, split-5-plainly, split-0-exactly}
 use Rattle.split.specs.Split.{Planes, lengthsOf, mainSample, auxSample, viewShort, viewAfter, splitNumberOf, splitAnswerOf, splitBuffersOf, SplitEnds}
 
 -- of `split`, and of `split_v1` and `split_v2` where t is V1 or V2

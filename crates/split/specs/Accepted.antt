@@ -6,8 +6,8 @@ use mathlib.Core.Bool.{false}
 use Rattle.picture.specs.declared.Size.{Size}
 use Rattle.picture.specs.Sizes.{strideOf, rowsOf}
 use Rattle.split_views.specs.Fits.{Whole, Room}
-use Rattle.split_number.specs.declared.PlaneLengths.{PlaneLengths}
-use Rattle.split_number.specs.Number.{tooLarge}
+use Rattle.split.specs.declared.number.PlaneLengths.{PlaneLengths}
+use Rattle.split.specs.Number.{tooLarge}
 
 pub record Accepted (z : Size) (p m a : PlaneLengths) : Type 0 where
   pub y-whole : Whole (p .y) (strideOf z) (rowsOf z)

@@ -1,3 +1,5 @@
 -- What a split answers and writes, and what an accepted one has.
+-- What number a split answers, and with what sizes.
 pub mod Split
 pub mod Accepted
+pub mod Number

@@ -15,10 +15,10 @@ use Rattle.picture.specs.declared.Size.{Size}
 use Rattle.picture.specs.Sizes.{strideOf, rowsOf}
 use Rattle.layout.specs.Maps.{Part, PY, PU, PV}
 use Rattle.layout.specs.declared.Layout.{Layout}
-use Rattle.split_number.specs.declared.PlaneLengths.{PlaneLengths}
-use Rattle.split_number.specs.declared.Views.{Views}
-pub use Rattle.split_number.specs.Number.{splitAnswerOf}
-unfoldable pub use Rattle.split_number.specs.Number.{tooLarge, viewShort, splitNumberOf}
+use Rattle.split.specs.declared.number.PlaneLengths.{PlaneLengths}
+use Rattle.split.specs.declared.number.Views.{Views}
+pub use Rattle.split.specs.Number.{splitAnswerOf}
+unfoldable pub use Rattle.split.specs.Number.{tooLarge, viewShort, splitNumberOf}
 pub use Rattle.split_views.specs.Views.{Planes, planes, mainSample, chromaOf, sampleAt, Written}
 unfoldable pub use Rattle.split_views.specs.Views.{auxSample}
 

@@ -4,13 +4,16 @@
 // A split promises its number, the views' sizes and every byte of the six outputs, for every size and every length (specs/Split.antt):
 // each plane of a view is written whole, no byte after it changes, and a refusal writes nothing. Number and sizes are found by split_number,
 // and the planes are written by split_both.
+pub mod both; // both views, written
+pub mod number; // 1, 5 or 6, and the answer
+
 ghost use mathlib.Core.List.{[], _∷_};
 ghost use Rattle.layout.specs.declared.Layout.the-variants.{V1, V2};
 ghost use Rattle.split.specs.Split.{planes, SplitEnds};
 use layout::Layout;
-pub use split_number::PlaneLengths;
-pub use split_number::Views;
-pub use split_number::split_number;
+pub use crate::number::PlaneLengths;
+pub use crate::number::Views;
+pub use crate::number::split_number;
 
 // Both views of the picture, the auxiliary one in the layout that is asked for. Ports `Yuv444Frame::split`.
 pub fn split(
@@ -45,9 +48,9 @@ pub fn split(
     };
     let number = split_number(size, from, main, aux);
     if number != 0 {
-        return split_number::split_answer(size, number);
+        return crate::number::split_answer(size, number);
     }
-    split_both::both_views(
+    crate::both::both_views(
         layout,
         size,
         y,
@@ -60,7 +63,7 @@ pub fn split(
         aux_u,
         aux_v,
     );
-    split_number::split_answer(size, 0)
+    crate::number::split_answer(size, 0)
 }
 
 // The layout V1.

@@ -119,7 +119,7 @@ fn seconds_part(dst: &mut [u8], src: &[u8], first: usize)
         seconds_64(dst, src, first);
         return;
     }
-    weave::seconds(dst, src, first, n);
+    columns::weave::seconds(dst, src, first, n);
 }
 
 // dst, at most 64 bytes, becomes every fourth byte of src, the first being src[first].
@@ -133,7 +133,7 @@ fn fourths_part(dst: &mut [u8], src: &[u8], first: usize)
         fourths_64(dst, src, first);
         return;
     }
-    weave::fourths_of(dst, src, first);
+    columns::weave::fourths_of(dst, src, first);
 }
 
 // out becomes every second sample of row `row` of the plane, from column `first` on.

@@ -1,6 +1,9 @@
 // What both views of a split hold (specs/Views.antt), and the planes of the main view; those of the auxiliary view are written by split_aux.
 //
 // Each writer promises every byte of the plane that it is lent, and no byte after it. One row at a time, by the writers of split_rows.
+pub mod auxiliary; // the auxiliary view
+pub mod auxiliary_rows; // one row of it
+
 ghost use mathlib.Core.Path.{_≡_};
 ghost use Prim.Native.Nat.{_+_, _*_, _/_, _<_, _≤_};
 ghost use lib.ListN.{length};

@@ -1,4 +1,7 @@
 -- A view's number, where its rows start, and which views are alike.
+-- A view's rows, and which rows are alike.
 pub mod View
-pub mod Rows
+pub mod Starts
 pub mod Alike
+pub mod Rows
+pub mod SameRow

@@ -3,13 +3,15 @@
 // A view is refused with 3 or 4 exactly as the document's table says (proofs/Exactly.antt), for every size, stride and length. A row of a
 // plane starts at row x stride (specs/Rows.antt); the row calls, which answer it as the caller's own bytes, are in view_rows. The sizes of
 // a view are its fields: the caller has them by value.
+pub mod rows; // its rows, as parts of the caller's planes
+
 ghost use mathlib.Core.Path.{_≡_};
 ghost use mathlib.Core.List.{[]};
 ghost use Prim.Native.Nat.{_*_, _≤_};
 ghost use lib.ListN.{length};
 ghost use Rattle.lent.specs.Outcome.{Outcome, answerOf};
 ghost use Rattle.view.specs.View.{lumaOf, chromaOf, narrow, planeShort, viewNumberOf};
-ghost use Rattle.view.specs.Rows.{rowStartOf};
+ghost use Rattle.view.specs.Starts.{rowStartOf};
 
 pub struct View {
     pub width: u16,

@@ -10,13 +10,13 @@ use lib.ListN.{length, getD, take, drop, length-append, length-drop, List·getD-
 use lib.Seq.{length-take-le, getD-append-add, getD-take, getD-drop}
 use borrow.Author.Tests.{ltb-true, ltb-false}
 use Rattle.lent.proofs.Paint.{paint-is}
-use Rattle.fields.specs.Fields.{u16At, u32At, u16Bytes, u32Bytes}
-use Rattle.fields.proofs.Bytes.{u16-back, u16-bytes, u32-bytes}
-use Rattle.wire.specs.declared.Stream.{Stream}
-use Rattle.wire_parts.specs.declared.Which.{Which}
-use Rattle.wire_parts.specs.Parts.{placesOf, partsOf, numbersOf}
-use Rattle.wire_parts.proofs.Parts.{inside}
-use Rattle.wire_put.specs.Stream.{numberBytes}
+use Rattle.wire_fields.specs.Fields.{u16At, u32At, u16Bytes, u32Bytes}
+use Rattle.wire_fields.proofs.Bytes.{u16-back, u16-bytes, u32-bytes}
+use Rattle.wire_read.specs.declared.Stream.{Stream}
+use Rattle.wire_read.specs.declared.parts.Which.{Which}
+use Rattle.wire_read.specs.Parts.{placesOf, partsOf, numbersOf}
+use Rattle.wire_read.proofs.PartLaws.{inside}
+use Rattle.wire_write.specs.Stream.{numberBytes}
 use Rattle.wire_back.specs.Back.{numbersIn, AllBelow}
 
 -- ---- bytes

@@ -9,22 +9,22 @@ use lib.ListN.{length, take, drop, take-append-drop}
 use lib.Seq.{length-take-le}
 use borrow.Author.Tests.{lt-leb}
 use Rattle.lent.proofs.Exactly.{nor}
-use Rattle.fields.specs.Fields.{u32At, u32Bytes, infoOf}
-use Rattle.fields.proofs.Fields.{info-parts, u32-front}
-use Rattle.wire.specs.declared.Avc444.{Avc444}
-use Rattle.wire.specs.Reading.{kindOf, carriesLuma, carriesChroma, readNumberOf, readOf}
-use Rattle.wire.specs.Format.{Parts, bytesOf, Sound, Payload}
-use Rattle.wire.specs.Format.Payload.{both, luma, chroma}
-use Rattle.wire.proofs.Exactly.{read-0-exactly}
-use Rattle.wire.proofs.Format.{read-format, kind-is}
-use Rattle.wire_parts.specs.declared.Which.{Which}
-use Rattle.wire_parts.specs.declared.Which.the-variants.{Luma, Chroma}
-use Rattle.wire_parts.specs.Parts.{placesOf, partsOf}
-use Rattle.wire_parts.proofs.Covered.{both-parts, luma-parts, chroma-parts, covered}
-use Rattle.wire_put.specs.Stream.{partsFrom}
-use Rattle.wire_number.specs.Number.{uneven, countLarge}
-use Rattle.wire_number.proofs.Exactly.{even-exactly}
-use Rattle.wire_number.proofs.Number.{write-0-exactly}
+use Rattle.wire_fields.specs.Fields.{u32At, u32Bytes, infoOf}
+use Rattle.wire_fields.proofs.Fields.{info-parts, u32-front}
+use Rattle.wire_read.specs.declared.Avc444.{Avc444}
+use Rattle.wire_read.specs.Reading.{kindOf, carriesLuma, carriesChroma, readNumberOf, readOf}
+use Rattle.wire_read.specs.Format.{Parts, bytesOf, Sound, Payload}
+use Rattle.wire_read.specs.Format.Payload.{both, luma, chroma}
+use Rattle.wire_read.proofs.Exactly.{read-0-exactly}
+use Rattle.wire_read.proofs.Format.{read-format, kind-is}
+use Rattle.wire_read.specs.declared.parts.Which.{Which}
+use Rattle.wire_read.specs.declared.parts.Which.the-variants.{Luma, Chroma}
+use Rattle.wire_read.specs.Parts.{placesOf, partsOf}
+use Rattle.wire_read.proofs.Covered.{both-parts, luma-parts, chroma-parts, covered}
+use Rattle.wire_write.specs.Stream.{partsFrom}
+use Rattle.wire_write.specs.Number.{uneven, countLarge}
+use Rattle.wire_write.proofs.Exactly.{even-exactly}
+use Rattle.wire_write.proofs.NumberLaws.{write-0-exactly}
 use Rattle.wire_write.specs.Writing.{sizesGiven, partsGiven, sizeFor, payloadOf, givenNumberOf}
 use Rattle.wire_write.proofs.Writing.{payload-long}
 use Rattle.wire_back.specs.Back.{numbersIn, givenIn, AllBelow, Standard}

@@ -11,20 +11,20 @@ use borrow.Author.Tests.{eq-eqb, ne-eqb}
 use Rattle.lent.specs.declared.Answer.{Answer}
 use Rattle.lent.proofs.Bools.{cond-true, cond-false}
 use Rattle.lent.proofs.Exactly.{nor}
-use Rattle.fields.specs.Fields.{u32At, u32Bytes, kindIn, sizeIn, infoOf}
-use Rattle.fields.proofs.Fields.{kind-back, size-back}
-use Rattle.fields.proofs.Bytes.{u32-long, u32-back}
-use Rattle.wire.specs.declared.Avc444.{Avc444}
-use Rattle.wire.specs.Reading.{kindOf, firstSizeOf, noStream, refusedWith, readOf}
-use Rattle.wire.specs.Format.{bytesOf, Sound, placesAt, Payload}
-use Rattle.wire.specs.Format.Payload.{both, luma, chroma}
-use Rattle.wire.proofs.Format.{format-read}
-use Rattle.wire_parts.specs.Parts.{partsAt}
-use Rattle.wire_parts.proofs.Covered.{parts-back}
-use Rattle.wire_put.proofs.Stream.{number-bytes-long, stream-long}
-use Rattle.wire_number.specs.Number.{uneven}
-use Rattle.wire_number.proofs.Exactly.{even-exactly}
-use Rattle.wire_number.proofs.Number.{Writable, write-0-exactly, size-small, luma-count-small, chroma-count-small}
+use Rattle.wire_fields.specs.Fields.{u32At, u32Bytes, kindIn, sizeIn, infoOf}
+use Rattle.wire_fields.proofs.Fields.{kind-back, size-back}
+use Rattle.wire_fields.proofs.Bytes.{u32-long, u32-back}
+use Rattle.wire_read.specs.declared.Avc444.{Avc444}
+use Rattle.wire_read.specs.Reading.{kindOf, firstSizeOf, noStream, refusedWith, readOf}
+use Rattle.wire_read.specs.Format.{bytesOf, Sound, placesAt, Payload}
+use Rattle.wire_read.specs.Format.Payload.{both, luma, chroma}
+use Rattle.wire_read.proofs.Format.{format-read}
+use Rattle.wire_read.specs.Parts.{partsAt}
+use Rattle.wire_read.proofs.Covered.{parts-back}
+use Rattle.wire_write.proofs.Stream.{number-bytes-long, stream-long}
+use Rattle.wire_write.specs.Number.{uneven}
+use Rattle.wire_write.proofs.Exactly.{even-exactly}
+use Rattle.wire_write.proofs.NumberLaws.{Writable, write-0-exactly, size-small, luma-count-small, chroma-count-small}
 use Rattle.wire_write.specs.Writing.{Given, sizesGiven, partsGiven, sizeFor, payloadOf, givenNumberOf, WriteOutcome}
 use Rattle.wire_write.proofs.Ends.{number-is, written, counted, count-fits}
 use Rattle.wire_back.specs.Back.{Back, WriteReadEnds}

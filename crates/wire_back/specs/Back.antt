@@ -17,13 +17,13 @@ use mathlib.Core.List.{List, [], _∷_, _++_}
 use lib.Dec.{eqb}
 use lib.ListN.{length, drop}
 use Rattle.lent.specs.Outcome.{Outcome, lentAfter}
-use Rattle.fields.specs.Fields.{u16At}
-use Rattle.wire.specs.declared.Avc444.{Avc444}
-use Rattle.wire.specs.Reading.{kindOf, firstSizeOf, carriesLuma, carriesChroma, noStream, refusedWith, readOf}
-use Rattle.wire_parts.specs.declared.Which.{Which}
-use Rattle.wire_parts.specs.declared.Which.the-variants.{Luma, Chroma}
-use Rattle.wire_parts.specs.Parts.{partsAt, partsOf}
-use Rattle.wire_number.specs.Number.{bytesFor, firstCarried}
+use Rattle.wire_fields.specs.Fields.{u16At}
+use Rattle.wire_read.specs.declared.Avc444.{Avc444}
+use Rattle.wire_read.specs.Reading.{kindOf, firstSizeOf, carriesLuma, carriesChroma, noStream, refusedWith, readOf}
+use Rattle.wire_read.specs.declared.parts.Which.{Which}
+use Rattle.wire_read.specs.declared.parts.Which.the-variants.{Luma, Chroma}
+use Rattle.wire_read.specs.Parts.{partsAt, partsOf}
+use Rattle.wire_write.specs.Number.{bytesFor, firstCarried}
 use Rattle.wire_write.specs.Writing.{Given, given, sizesGiven, partsGiven, sizeFor, payloadOf, givenNumberOf}
 
 pub record Back (s : List ℕ) (a : Avc444) (kind : ℕ) (l c : Given) : Type 0 where

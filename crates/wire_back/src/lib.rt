@@ -12,7 +12,7 @@ pub fn write_read(
     chroma_pairs: &[u8],
     chroma_data: &[u8],
     out: &mut [u8],
-) -> wire::Avc444
+) -> wire_read::Avc444
     ensures { λ r. ⌜ WriteReadEnds kind (given (now («luma_rects» .entry)) (now («luma_pairs» .entry)) (now («luma_data» .entry)))
         (given (now («chroma_rects» .entry)) (now («chroma_pairs» .entry)) (now («chroma_data» .entry)))
         (now (out .entry)) r (now (out .exit)) ⌝ }
@@ -28,8 +28,8 @@ pub fn write_read(
         out,
     );
     if written.number != 0 {
-        return wire::refused(written.number);
+        return wire_read::refused(written.number);
     }
     let end = written.count;
-    wire::read(&out[0..end])
+    wire_read::read(&out[0..end])
 }

@@ -10,7 +10,7 @@ use Rattle.lent.specs.declared.Answer.{Answer}
 use Rattle.lent.specs.Outcome.{answerOf, lentAfter}
 use Rattle.lent.proofs.Ends.{answer-done, lent-done}
 use Rattle.lent.proofs.Outcome.{outcome-unique}
-use Rattle.wire_number.specs.Number.{writeNumberOf}
+use Rattle.wire_write.specs.Number.{writeNumberOf}
 use Rattle.wire_write.specs.Writing.{Given, payloadOf, givenNumberOf, WriteOutcome}
 
 module _ (kind : ℕ) (l c : Given) where

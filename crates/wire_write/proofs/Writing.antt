@@ -8,12 +8,12 @@ use mathlib.Core.List.{List, [], _∷_, _++_, append-assoc}
 use borrow.Rule.Slice.PartMut.{putMid, postOf}
 use lib.ListN.{length, take, drop, length-append, length-drop}
 use lib.Seq.{length-take-le}
-use Rattle.fields.specs.Fields.{u32Bytes, infoOf}
-use Rattle.fields.proofs.Bytes.{u32-long}
-use Rattle.wire.specs.Reading.{carriesLuma, carriesChroma}
-use Rattle.wire.specs.Format.{bytesOf}
-use Rattle.wire_put.proofs.Stream.{so-far, part-next, stream-long}
-use Rattle.wire_number.specs.Number.{bytesFor, payloadBytes}
+use Rattle.wire_fields.specs.Fields.{u32Bytes, infoOf}
+use Rattle.wire_fields.proofs.Bytes.{u32-long}
+use Rattle.wire_read.specs.Reading.{carriesLuma, carriesChroma}
+use Rattle.wire_read.specs.Format.{bytesOf}
+use Rattle.wire_write.proofs.Stream.{so-far, part-next, stream-long}
+use Rattle.wire_write.specs.Number.{bytesFor, payloadBytes}
 use Rattle.wire_write.specs.Writing.{Given, sizesGiven, partsGiven, sizeFor, payloadOf, Placed}
 
 pub empty : (l : List ℕ) → length l ≡ 0 → l ≡ []

@@ -15,12 +15,12 @@ use mathlib.Core.List.{List, [], _∷_, _++_}
 use lib.ListN.{length, drop}
 use Rattle.lent.specs.declared.Answer.{Answer}
 use Rattle.lent.specs.Outcome.{Outcome, answerOf, lentAfter}
-use Rattle.fields.specs.Fields.{u32Bytes, infoOf}
-use Rattle.wire.specs.Reading.{carriesLuma, carriesChroma}
-use Rattle.wire.specs.Format.{Parts, bytesOf}
-use Rattle.wire_put.specs.Stream.{partsFrom}
-use Rattle.wire_number.specs.declared.StreamSizes.{StreamSizes}
-use Rattle.wire_number.specs.Number.{bytesFor, writeNumberOf}
+use Rattle.wire_fields.specs.Fields.{u32Bytes, infoOf}
+use Rattle.wire_read.specs.Reading.{carriesLuma, carriesChroma}
+use Rattle.wire_read.specs.Format.{Parts, bytesOf}
+use Rattle.wire_write.specs.Stream.{partsFrom}
+use Rattle.wire_write.specs.declared.number.StreamSizes.{StreamSizes}
+use Rattle.wire_write.specs.Number.{bytesFor, writeNumberOf}
 
 pub record Given : Type 0 where
   pub rects : List ℕ

@@ -1,17 +1,20 @@
-// The AVC444 payload written into a lent output (document 02, request E7): what `wire::read` reads.
+// The AVC444 payload written into a lent output (document 02, request E7): what `wire_read::read` reads.
 //
 // The number is found from the lengths before anything is written, so that a refusal changes no byte. No public call asks anything of
 // its caller.
+pub mod number; // 8, 7, 11 or 6, from the lengths alone
+pub mod put; // one stream, into a lent part
+
 ghost use mathlib.Core.Path.{_≡_};
 ghost use mathlib.Core.Bool.{true, cond};
 ghost use mathlib.Core.List.{[], _∷_, _++_};
 ghost use Prim.Native.Nat.{_/_, _^_, _<_};
 ghost use lib.ListN.{length, drop};
-ghost use Rattle.wire.specs.Format.{bytesOf};
-ghost use Rattle.wire_put.specs.Stream.{streamLength, partsFrom};
-ghost use Rattle.wire_number.specs.Number.{bytesFor};
+ghost use Rattle.wire_read.specs.Format.{bytesOf};
+ghost use Rattle.wire_write.specs.Stream.{streamLength, partsFrom};
+ghost use Rattle.wire_write.specs.Number.{bytesFor};
 ghost use Rattle.wire_write.specs.Writing.{given, Placed, payloadOf, WriteOutcome};
-use wire_number::StreamSizes;
+use crate::number::StreamSizes;
 
 // dst becomes the stream, or it is empty where the stream is not carried.
 fn put_carried(is: bool, dst: &mut [u8], rects: &[u16], pairs: &[u8], data: &[u8])
@@ -19,7 +22,7 @@ fn put_carried(is: bool, dst: &mut [u8], rects: &[u16], pairs: &[u8], data: &[u8
     ensures { λ _. ⌜ now (dst .exit) ≡ cond is (bytesOf (partsFrom (now (rects .entry)) (now (pairs .entry)) (now («data» .entry)))) [] ⌝ }
 {
     if is {
-        wire_put::put_stream(dst, rects, pairs, data);
+        crate::put::put_stream(dst, rects, pairs, data);
     }
 }
 
@@ -29,7 +32,7 @@ fn carried_bytes(is: bool, z: StreamSizes) -> usize
     ensures { λ r. ⌜ r ≡ cond is (bytesFor z) 0 ⌝ }
 {
     if is {
-        return wire_number::bytes_for(z);
+        return crate::number::bytes_for(z);
     }
     0
 }
@@ -52,7 +55,7 @@ fn put_payload(
         (given (now («chroma_rects» .entry)) (now («chroma_pairs» .entry)) (now («chroma_data» .entry))) ++ drop end (now (out .entry)) ⌝ }
 {
     let size = (middle - 4) as u32;
-    fields::put_u32(&mut out[0..4], fields::info(kind, size));
+    wire_fields::put_u32(&mut out[0..4], wire_fields::info(kind, size));
     put_carried(
         kind != 2,
         &mut out[4..middle],
@@ -94,7 +97,7 @@ pub fn write(
         pairs: chroma_pairs.len(),
         data: chroma_data.len(),
     };
-    let n = wire_number::write_number(kind, l, c, out.len());
+    let n = crate::number::write_number(kind, l, c, out.len());
     if n != 0 {
         return lent::Answer {
             number: n,

@@ -2,8 +2,8 @@
 use mathlib.Core.Path.{refl}
 use Rattle.colour.specs.Colour.{lumaWhole, chromaUWhole, chromaVWhole, lumaOf, chromaUOf, chromaVOf, forwardOf, redOf, greenOf, blueOf, reverseOf, reversed, filteredOf}
 use Rattle.lent.specs.Paint.{within, box, upTo}
-use Rattle.combine.specs.Main.{mainLuma, mainChroma}
-use Rattle.combine.specs.Columns.{thoseBelow, columnsTaken}
+use Rattle.apply_main.specs.Main.{mainLuma, mainChroma}
+use Rattle.apply_main.specs.Columns.{thoseBelow, columnsTaken}
 use Rattle.worked.specs.Worked.{worked, All}
 
 -- one line after the other

@@ -11,8 +11,8 @@ use Prim.Native.Nat.{ℕ, zero, suc, _-_}
 use Rattle.colour.specs.Colour.{forwardOf, reverseOf, filteredOf}
 use Rattle.picture.specs.declared.Size.{Size}
 use Rattle.view.specs.declared.View.{View}
-use Rattle.combine.specs.Main.{mainLuma, mainChroma}
-use Rattle.combine.specs.Columns.{columnsTaken}
+use Rattle.apply_main.specs.Main.{mainLuma, mainChroma}
+use Rattle.apply_main.specs.Columns.{columnsTaken}
 
 pub data Line : Type 0 where
   -- "Colour, forward and back": r g b, then the y u v that it gives, then the r g b that this gives back

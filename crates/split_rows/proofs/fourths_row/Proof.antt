@@ -10,7 +10,7 @@ use borrow.Author.Tests.{le-ltb, lt-ltb}
 use Rattle.lent.specs.Paint.{paint, every}
 use Rattle.lent.specs.Samples.{sample}
 use Rattle.lent.proofs.Paint.{paint-none, paint-next, length-paint}
-use Rattle.weave.proofs.Turns.{paint-every}
+use Rattle.columns.proofs.Turns.{paint-every}
 use Rattle.split_rows.proofs.Rows.{picked-next}
 use Rattle.split_rows.proofs.fourths_row.Statement.{statement}
 use Rattle.split_rows.proofs.fourths_row.Tie as tie

@@ -9,7 +9,7 @@ use lib.ListN.{length, getD, length-set}
 use borrow.Author.Tests.{le-ltb, lt-ltb}
 use Rattle.lent.specs.Paint.{paint, every}
 use Rattle.lent.proofs.Paint.{paint-none, paint-next, length-paint}
-use Rattle.weave.proofs.Turns.{paint-every}
+use Rattle.columns.proofs.Turns.{paint-every}
 use Rattle.split_rows.proofs.lasts.Statement.{statement}
 use Rattle.split_rows.proofs.lasts.Tie as tie
 

@@ -3,7 +3,7 @@
 use borrow.Author.Needs.{needs}
 use native.Mathlib.Omega.{arith}
 use mathlib.Core.Path.{refl, _∙_}
-use Rattle.weave.proofs.Turns.{paint-every}
+use Rattle.columns.proofs.Turns.{paint-every}
 use Rattle.split_rows.proofs.seconds_part.Statement.{statement}
 use Rattle.split_rows.proofs.seconds_part.Tie as tie
 

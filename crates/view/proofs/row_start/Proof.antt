@@ -3,7 +3,7 @@
 use native.Mathlib.Omega.{arith}
 use mathlib.Core.Path.{sym}
 use Rattle.lent.proofs.Cells.{row-in}
-use Rattle.view.proofs.Rows.{rowStart-holds, rowStart-none}
+use Rattle.view.proofs.Starts.{rowStart-holds, rowStart-none}
 use Rattle.view.proofs.row_start.Statement.{statement}
 use Rattle.view.proofs.row_start.Tie as tie
 

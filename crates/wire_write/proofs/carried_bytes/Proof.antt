@@ -4,7 +4,7 @@ use Prim.Native.Nat.{_^_, _<_}
 use mathlib.Core.Path.{sym, subst, _∙_}
 use mathlib.Core.Bool.{Bool, cond}
 use Rattle.lent.proofs.Bools.{cond-true}
-use Rattle.wire_number.specs.Number.{bytesFor}
+use Rattle.wire_write.specs.Number.{bytesFor}
 use borrow.Author.Needs.{needs}
 use Rattle.wire_write.proofs.carried_bytes.Statement.{statement}
 use Rattle.wire_write.proofs.carried_bytes.Tie as tie

@@ -5,8 +5,8 @@ use mathlib.Core.List.{[]}
 use lib.ListN.{length}
 use denote.Ref.{now}
 use Rattle.lent.proofs.Bools.{cond-true, cond-false}
-use Rattle.wire.specs.Format.{bytesOf}
-use Rattle.wire_put.specs.Stream.{streamLength, partsFrom}
+use Rattle.wire_read.specs.Format.{bytesOf}
+use Rattle.wire_write.specs.Stream.{streamLength, partsFrom}
 use Rattle.wire_write.proofs.Writing.{empty}
 use borrow.Author.Needs.{needs}
 use Rattle.wire_write.proofs.put_carried.Statement.{statement}

@@ -2,7 +2,7 @@
 -- Assumes nothing.
 use mathlib.Core.Path.{ap, _∙_}
 use denote.Ref.{now}
-use Rattle.fields.specs.Fields.{u32Bytes}
+use Rattle.wire_fields.specs.Fields.{u32Bytes}
 use Rattle.wire_write.specs.Writing.{given}
 use Rattle.wire_write.proofs.Writing.{chroma-room, payload-written}
 use borrow.Author.Needs.{needs}

@@ -8,7 +8,7 @@ use lib.ListN.{length, drop}
 use denote.Ref.{now}
 use Rattle.lent.specs.Outcome.{answerOf}
 use Rattle.lent.proofs.Ends.{answer-refused, lent-refused}
-use Rattle.wire_number.proofs.Number.{Writable, write-0-exactly, size-small, luma-count-small, chroma-count-small}
+use Rattle.wire_write.proofs.NumberLaws.{Writable, write-0-exactly, size-small, luma-count-small, chroma-count-small}
 use Rattle.wire_write.specs.Writing.{Given, given, sizesGiven, payloadOf, givenNumberOf}
 use Rattle.wire_write.proofs.Writing.{payload-long}
 use borrow.Author.Needs.{needs}

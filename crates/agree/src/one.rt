@@ -1,0 +1,120 @@
+// One layout's walk: a picture is split, and its views go into an earlier picture over a list of rectangles, by the calls themselves.
+//
+// Whatever the layout, the earlier picture then holds the picture's luma at each pixel inside a rectangle and its chroma in each widened
+// rectangle, and all other luma of its pixels and all other chroma is as before (agree_law/specs/Agrees.antt). `through` finds the first
+// number that a step would give before it writes anything; a refusal changes no byte. Number and every lent byte are equations
+// (agree_law/specs/Through.antt), and 0 comes with the theorem.
+ghost use mathlib.Core.Path.{_≡_};
+ghost use Rattle.split.specs.Split.{planes, splitNumberOf};
+ghost use Rattle.agree_law.specs.Through.{viewIn, firstOf, earlierNumberOf, ThroughEnds};
+use apply_auxiliary::apply_auxiliary_view;
+use layout::Layout;
+use picture::Size;
+use split::PlaneLengths;
+use view::View;
+
+// What the apply calls can refuse: 1, or 7. The views of a split are neither narrow nor short, so 3 and 4 cannot arise.
+fn earlier_number(size: Size, earlier: PlaneLengths, nr: usize) -> u32
+    ensures { λ r. ⌜ r ≡ earlierNumberOf size earlier nr ⌝ }
+{
+    if picture::planes_short(size, earlier.y, earlier.u, earlier.v) {
+        return 1;
+    }
+    if nr % 4 != 0 {
+        return 7;
+    }
+    0
+}
+
+// The first number that a step would give: the split, or an apply call.
+pub fn through_number(
+    size: Size,
+    from: PlaneLengths,
+    main: PlaneLengths,
+    aux: PlaneLengths,
+    earlier: PlaneLengths,
+    nr: usize,
+) -> u32
+    ensures { λ r. ⌜ r ≡ firstOf (splitNumberOf size from main aux) (earlierNumberOf size earlier nr) ⌝ }
+{
+    let number = split::split_number(size, from, main, aux);
+    if number != 0 {
+        return number;
+    }
+    earlier_number(size, earlier, nr)
+}
+
+// The size of both views, as a split answers it.
+fn view_of(views: split::Views) -> View
+    ensures { λ r. ⌜ r ≡ viewIn views ⌝ }
+{
+    View {
+        width: views.width,
+        height: views.height,
+        luma_stride: views.luma_stride,
+        chroma_stride: views.chroma_stride,
+    }
+}
+
+// The picture y, u, v is split in the layout, and the main view and then the auxiliary view go into the earlier picture qy, qu, qv over
+// the list. The views' six buffers are the caller's.
+pub fn through(
+    layout: Layout,
+    size: Size,
+    y: &[u8],
+    u: &[u8],
+    v: &[u8],
+    rects: &[u16],
+    main_y: &mut [u8],
+    main_u: &mut [u8],
+    main_v: &mut [u8],
+    aux_y: &mut [u8],
+    aux_u: &mut [u8],
+    aux_v: &mut [u8],
+    qy: &mut [u8],
+    qu: &mut [u8],
+    qv: &mut [u8],
+) -> lent::Answer
+    ensures { λ r. ⌜ ThroughEnds layout size (now (rects .entry)) (planes (now (y .entry)) (now (u .entry)) (now (v .entry))) (planes (now («main_y» .entry)) (now («main_u» .entry)) (now («main_v» .entry))) (planes (now («aux_y» .entry)) (now («aux_u» .entry)) (now («aux_v» .entry))) (planes (now (qy .entry)) (now (qu .entry)) (now (qv .entry))) r (planes (now («main_y» .exit)) (now («main_u» .exit)) (now («main_v» .exit))) (planes (now («aux_y» .exit)) (now («aux_u» .exit)) (now («aux_v» .exit))) (planes (now (qy .exit)) (now (qu .exit)) (now (qv .exit))) ⌝ }
+{
+    let from = PlaneLengths {
+        y: y.len(),
+        u: u.len(),
+        v: v.len(),
+    };
+    let main = PlaneLengths {
+        y: main_y.len(),
+        u: main_u.len(),
+        v: main_v.len(),
+    };
+    let aux = PlaneLengths {
+        y: aux_y.len(),
+        u: aux_u.len(),
+        v: aux_v.len(),
+    };
+    let earlier = PlaneLengths {
+        y: qy.len(),
+        u: qu.len(),
+        v: qv.len(),
+    };
+    let number = through_number(size, from, main, aux, earlier, rects.len());
+    if number != 0 {
+        return lent::Answer { number, count: 0 };
+    }
+    let views = split::split(
+        layout,
+        size,
+        y,
+        u,
+        v,
+        main_y,
+        main_u,
+        main_v,
+        aux_y,
+        aux_u,
+        aux_v,
+    );
+    let w = view_of(views);
+    apply_main::apply_main_view(size, qy, qu, qv, rects, w, main_y, main_u, main_v);
+    apply_auxiliary_view(layout, size, qy, qu, qv, rects, w, aux_y, aux_u, aux_v)
+}

@@ -1,0 +1,51 @@
+-- `apply_auxiliary::aux_row` meets its contract: each layout has its function.
+-- Assumes nothing.
+use borrow.Author.Needs.{needs}
+use mathlib.Core.Path.{sym, ap, _∙_}
+use denote.Ref.{now}
+use mathlib.Core.List.{List}
+use Prim.Native.Nat.{ℕ}
+use Rattle.lent.specs.Paint.{painted}
+use Rattle.picture.specs.Sizes.{strideOf, rowsOf}
+use Rattle.layout.specs.declared.Layout.{Layout}
+use Rattle.apply_auxiliary_rows.specs.Rows.{auxSource, auxRow}
+use Rattle.apply_auxiliary.proofs.aux_row.Statement.{statement}
+use Rattle.apply_auxiliary.proofs.aux_row.Tie as tie
+
+-- the plane that the contract asks for, by a layout
+abbrev asked : tie.Start → Layout → List ℕ
+asked s t =
+    let a = s .args in
+    painted (strideOf (a .size)) (rowsOf (a .size)) (auxRow t (a .w) (a .row) (a .left) (a .right)) (auxSource t (a .which) (a .w) (now (a .vy)) (now (a .vu)) (now (a .vv))) (now (a .dst))
+
+enum-told : tie.Need-enum-told
+enum-told c = search needs
+
+v1-row-requires : tie.Need-v1-row-requires
+v1-row-requires c κs = search needs
+
+enum-told-2 : tie.Need-enum-told-2
+enum-told-2 c = search needs
+
+v2-row-requires : tie.Need-v2-row-requires
+v2-row-requires c κs = search needs
+
+same-length : tie.Need-same-length
+same-length c = search needs
+
+returns : tie.Need-returns
+returns c =
+    let told = c .before .before .before .before in
+    c .before .before .v1-row .ensures ∙ ap (asked (told .before .before .before .before .before .before)) (sym (told .enum-told .given .1))
+
+same-length-2 : tie.Need-same-length-2
+same-length-2 c = search needs
+
+returns-2 : tie.Need-returns-2
+returns-2 c =
+    let told = c .before .before .before .before in
+    c .before .before .v2-row .ensures ∙ ap (asked (told .before .before .before .before .before .before)) (sym (told .enum-told2 .given .1))
+
+pub aux-row-spec : {M : Type 1} → statement M
+aux-row-spec =
+    tie.close (tie.spec enum-told v1-row-requires enum-told-2 v2-row-requires same-length returns same-length-2 returns-2)

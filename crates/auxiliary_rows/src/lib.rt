@@ -1,2 +1,0 @@
-// What an auxiliary view gives to one row of a chroma plane: the words that `v1_rows` and `v2_rows` state their promises with
-// (specs/Rows.antt), and the laws that both lean on. There is no code here.

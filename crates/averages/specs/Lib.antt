@@ -1,2 +1,0 @@
--- The averages of a plane's blocks.
-pub mod Averaged

@@ -1,0 +1,83 @@
+-- When `from_rgba` refuses, what it leaves where it does not, that its outcome is the only one, and what of the input has no part in it.
+-- Assumes nothing.
+use Prim.Native.Nat.{ℕ, _+_, _*_, _≤_}
+use native.Mathlib.Nat.{add-zero}
+use native.Mathlib.Omega.{arith}
+use mathlib.Core.Path.{_≡_, refl, ap, _∙_}
+use mathlib.Core.Bool.{true, false, cond}
+use mathlib.Core.Logic.{_↔_}
+use mathlib.Core.List.{List, [], _∷_}
+use lib.ListN.{length, getD}
+use Rattle.lent.specs.Outcome.{Outcome, answerOf, lentAfter}
+use Rattle.lent.specs.Paint.{painted, whole}
+use Rattle.lent.specs.Refusal.{refusal}
+use Rattle.lent.specs.Samples.{sample}
+use Rattle.lent.specs.declared.Answer.{Answer}
+use Rattle.lent.proofs.Bools.{cond-ext}
+use Rattle.lent.proofs.Refusal.{refusal-exactly, refusal-none}
+use Rattle.lent.proofs.Outcome.{outcome-unique}
+use Rattle.colour.specs.Colour.{forwardOf}
+use Rattle.colour.specs.declared.Yuv.{Yuv}
+use Rattle.from_rgba.specs.Averaged.{averaged}
+use Rattle.picture.specs.declared.Size.{Size}
+use Rattle.picture.specs.Sizes.{strideOf, rowsOf, planesShort, planeOf}
+use Rattle.from_rgba.specs.FromRgba.{convertedOf, inPicture, SamePixels, rgbaShort, fromNumberOf, fromBuffersOf}
+use Rattle.from_rgba.proofs.Blocks.{averaged-painted}
+use Rattle.from_rgba.specs.Rows.{colourAt}
+use Rattle.from_rgba.proofs.Padding.{inside-facts}
+
+module _ (z : Size) (n ny nu nv : ℕ) where
+  pub from-2-exactly : (fromNumberOf z n ny nu nv ≡ 2) ↔ (Unit {0} × (rgbaShort z n ≡ true))
+  from-2-exactly = refusal-exactly (rgbaShort z n) 2 ((planesShort z ny nu nv, 1) ∷ []) tt (λ e. omega arith) [] tt
+
+  pub from-1-exactly : (fromNumberOf z n ny nu nv ≡ 1) ↔ (((rgbaShort z n ≡ false) × Unit {0}) × (planesShort z ny nu nv ≡ true))
+  from-1-exactly = refusal-exactly (planesShort z ny nu nv) 1 [] tt (λ e. omega arith) ((rgbaShort z n, 2) ∷ []) tt
+
+  pub from-0-exactly : (fromNumberOf z n ny nu nv ≡ 0) ↔ ((rgbaShort z n ≡ false) × ((planesShort z ny nu nv ≡ false) × Unit {0}))
+  from-0-exactly = refusal-none ((rgbaShort z n, 2) ∷ (planesShort z ny nu nv, 1) ∷ []) tt
+
+-- the call's input: the pixels, the size and the three buffers
+abbrev pub FromInput : Type 0
+FromInput = List ℕ × Size × List ℕ × List ℕ × List ℕ
+
+abbrev pub fromAnswerOf : FromInput → Answer
+fromAnswerOf i = answerOf (fromNumberOf (i .1) (length (i .0)) (length (i .2)) (length (i .3)) (length (i .4))) 0
+
+abbrev pub fromBuffers : FromInput → List (List ℕ)
+fromBuffers i = fromBuffersOf (i .0) (i .1) (i .2) (i .3) (i .4)
+
+pub from-unique : (i : FromInput) (r q : Answer) (rs qs : List (List ℕ)) → Outcome (fromAnswerOf i) (fromBuffers i) r rs → Outcome (fromAnswerOf i) (fromBuffers i) q qs → (r ≡ q) × (rs ≡ qs)
+from-unique = outcome-unique fromAnswerOf fromBuffers
+
+-- a plane that was written whole, then averaged
+pub plane-averaged : (z : Size) (p : ℕ → ℕ → ℕ) (xs : List ℕ) {ys zs : List ℕ} {stride rows : ℕ} → rowsOf z * strideOf z ≤ length xs → stride ≡ strideOf z → rows ≡ rowsOf z
+    → ys ≡ planeOf z p xs → zs ≡ painted stride rows whole (averaged (sample ys stride)) ys → zs ≡ planeOf z (averaged p) xs
+plane-averaged z p xs fits w-is h-is ys-is zs-is =
+    zs-is
+    ∙ (λ i. painted (w-is i) (h-is i) whole (averaged (sample (ys-is i) (w-is i))) (ys-is i))
+    ∙ averaged-painted (strideOf z) (rowsOf z) p xs fits (omega arith) (omega arith)
+
+-- ---- alpha, and input past the pixels, reach no answer
+
+module _ (z : Size) (px qx : List ℕ) (agree : SamePixels z px qx) where
+  pixel : (r c : ℕ) → inPicture z r c ≡ true → convertedOf px z r c ≡ convertedOf qx z r c
+  unfolding colourAt
+  pixel r c e =
+      let f = inside-facts (z .width) (z .height) r c e in
+      let red : getD px (4 * (r * z .width + c)) 0 ≡ getD qx (4 * (r * z .width + c)) 0 = simp add-zero at (agree .same r c 0 (f .0) (f .1) (omega arith)) in
+      λ i. forwardOf (red i) (agree .same r c 1 (f .0) (f .1) (omega arith) i) (agree .same r c 2 (f .0) (f .1) (omega arith) i)
+
+  plane-same : (pick : Yuv → ℕ) (pad r c : ℕ) → cond (inPicture z r c) (pick (convertedOf px z r c)) pad ≡ cond (inPicture z r c) (pick (convertedOf qx z r c)) pad
+  plane-same pick pad r c = cond-ext (inPicture z r c) (inPicture z r c) _ _ pad refl (λ e. ap pick (pixel r c e))
+
+  pub from-same : (y u v : List ℕ) → rgbaShort z (length px) ≡ rgbaShort z (length qx) → (fromAnswerOf (px, z, y, u, v) ≡ fromAnswerOf (qx, z, y, u, v)) × (fromBuffersOf px z y u v ≡ fromBuffersOf qx z y u v)
+  unfolding fromBuffersOf
+  from-same y u v short =
+      let number : fromNumberOf z (length px) (length y) (length u) (length v) ≡ fromNumberOf z (length qx) (length y) (length u) (length v) = λ i. refusal ((short i, 2) ∷ (planesShort z (length y) (length u) (length v), 1) ∷ []) in (
+        ap (λ (n : ℕ). answerOf n 0) number,
+        λ i.
+            lentAfter (number i) y (planeOf z (λ r c. plane-same (λ p. p .y) 0 r c i) y)
+            ∷ lentAfter (number i) u (planeOf z (averaged (λ r c. plane-same (λ p. p .u) 128 r c i)) u)
+            ∷ lentAfter (number i) v (planeOf z (averaged (λ r c. plane-same (λ p. p .v) 128 r c i)) v)
+            ∷ [],
+      )

@@ -1,0 +1,6 @@
+-- A picture from RGBA pixels.
+-- The averages of a plane's blocks.
+-- The rows of a picture that is made from RGBA pixels.
+pub mod FromRgba
+pub mod Averaged
+pub mod Rows

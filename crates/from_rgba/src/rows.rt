@@ -1,0 +1,130 @@
+// The rows of a picture that is made from RGBA pixels: padding, then the converted pixels, before the averages.
+//
+// `convert_planes` promises every byte of the three planes; bytes after them stay. A width and a height are all that it needs of a
+// picture, so it stands below the size record.
+ghost use mathlib.Core.Path.{_≡_};
+ghost use mathlib.Core.Bool.{not, cond};
+ghost use Prim.Native.Nat.{_*_, _≤_};
+ghost use lib.ListN.{length};
+ghost use Rattle.lent.specs.Paint.{paint, painted, every, whole};
+ghost use Rattle.lent.specs.Sizes.{roundUp};
+ghost use Rattle.from_rgba.specs.Rows.{
+  colourAt,
+  inputAt,
+  inside,
+  paddingFromOf,
+  lineOf,
+  linePainted,
+  PixelsFit,
+  LineFits,
+  RoomFor,
+};
+
+// The column from which row `row` is padding.
+fn padding_from(width: u16, height: u16, row: usize) -> usize
+    ensures { λ r. ⌜ r ≡ paddingFromOf width height row ⌝ }
+{
+    if row < height as usize {
+        return width as usize;
+    }
+    0
+}
+
+// All of the plane but the picture's own rows and columns holds `value`.
+fn pad_plane(plane: &mut [u8], width: u16, height: u16, value: u8)
+    requires { ⌜ roundUp 16 height * roundUp 16 width ≤ length (now plane) ⌝ }
+    ensures { λ _. ⌜ now (plane .exit) ≡ painted (roundUp 16 width) (roundUp 16 height) (λ r c. not (inside width height r c)) (λ r c. value) (now (plane .entry)) ⌝ }
+{
+    let stride = lent::round_up_16(width);
+    let rows = lent::round_up_16(height);
+    let mut row = 0;
+    while row < rows {
+        let line = row * stride;
+        let from = padding_from(width, height, row);
+        lent::fill(&mut plane[line + from..line + stride], value);
+        row += 1;
+    }
+}
+
+// Y, U and V of a row of pixels, in one pass.
+fn forward_row(pixels: &[u8], y: &mut [u8], u: &mut [u8], v: &mut [u8])
+    requires { ⌜ PixelsFit (length (now pixels)) (length (now y)) (length (now u)) (length (now v)) ⌝ }
+    ensures y { λ _. ⌜ now (y .exit) ≡ paint every (λ k. colourAt (now (pixels .entry)) k .y) (now (y .entry)) ⌝ }
+    ensures u { λ _. ⌜ now (u .exit) ≡ paint every (λ k. colourAt (now (pixels .entry)) k .u) (now (u .entry)) ⌝ }
+    ensures v { λ _. ⌜ now (v .exit) ≡ paint every (λ k. colourAt (now (pixels .entry)) k .v) (now (v .entry)) ⌝ }
+{
+    let n = y.len();
+    let mut i = 0;
+    while i < n {
+        let r = pixels[4 * i];
+        let g = pixels[4 * i + 1];
+        let b = pixels[4 * i + 2];
+        let p = colour::forward(r, g, b);
+        y[i] = p.y;
+        u[i] = p.u;
+        v[i] = p.v;
+        i += 1;
+    }
+}
+
+// The `n` pixels from byte `at` on go to the samples from `line` on.
+fn forward_line(
+    rgba: &[u8],
+    at: usize,
+    n: usize,
+    line: usize,
+    y: &mut [u8],
+    u: &mut [u8],
+    v: &mut [u8],
+)
+    requires { ⌜ LineFits (length (now rgba)) (length (now y)) (length (now u)) (length (now v)) at n line ⌝ }
+    ensures y { λ _. ⌜ now (y .exit) ≡ linePainted line n (λ k. colourAt (lineOf (now (rgba .entry)) at n) k .y) (now (y .entry)) ⌝ }
+    ensures u { λ _. ⌜ now (u .exit) ≡ linePainted line n (λ k. colourAt (lineOf (now (rgba .entry)) at n) k .u) (now (u .entry)) ⌝ }
+    ensures v { λ _. ⌜ now (v .exit) ≡ linePainted line n (λ k. colourAt (lineOf (now (rgba .entry)) at n) k .v) (now (v .entry)) ⌝ }
+{
+    let end = line + n;
+    forward_row(
+        &rgba[at..at + 4 * n],
+        &mut y[line..end],
+        &mut u[line..end],
+        &mut v[line..end],
+    );
+}
+
+// The picture's own rows and columns of the three planes hold the converted pixels.
+fn forward_rows(rgba: &[u8], width: u16, height: u16, y: &mut [u8], u: &mut [u8], v: &mut [u8])
+    requires { ⌜ RoomFor width height (length (now rgba)) (length (now y)) (length (now u)) (length (now v)) ⌝ }
+    ensures y { λ _. ⌜ now (y .exit) ≡ painted (roundUp 16 width) (roundUp 16 height) (inside width height) (λ r c. inputAt (now (rgba .entry)) width r c .y) (now (y .entry)) ⌝ }
+    ensures u { λ _. ⌜ now (u .exit) ≡ painted (roundUp 16 width) (roundUp 16 height) (inside width height) (λ r c. inputAt (now (rgba .entry)) width r c .u) (now (u .entry)) ⌝ }
+    ensures v { λ _. ⌜ now (v .exit) ≡ painted (roundUp 16 width) (roundUp 16 height) (inside width height) (λ r c. inputAt (now (rgba .entry)) width r c .v) (now (v .entry)) ⌝ }
+{
+    let stride = lent::round_up_16(width);
+    let n = width as usize;
+    let m = height as usize;
+    let mut row = 0;
+    while row < m {
+        let at = 4 * (row * n);
+        forward_line(rgba, at, n, row * stride, y, u, v);
+        row += 1;
+    }
+}
+
+// The three planes of a picture: padding, then the converted pixels.
+pub fn convert_planes(
+    rgba: &[u8],
+    width: u16,
+    height: u16,
+    y: &mut [u8],
+    u: &mut [u8],
+    v: &mut [u8],
+)
+    requires { ⌜ RoomFor width height (length (now rgba)) (length (now y)) (length (now u)) (length (now v)) ⌝ }
+    ensures y { λ _. ⌜ now (y .exit) ≡ painted (roundUp 16 width) (roundUp 16 height) whole (λ r c. cond (inside width height r c) (inputAt (now (rgba .entry)) width r c .y) 0) (now (y .entry)) ⌝ }
+    ensures u { λ _. ⌜ now (u .exit) ≡ painted (roundUp 16 width) (roundUp 16 height) whole (λ r c. cond (inside width height r c) (inputAt (now (rgba .entry)) width r c .u) 128) (now (u .entry)) ⌝ }
+    ensures v { λ _. ⌜ now (v .exit) ≡ painted (roundUp 16 width) (roundUp 16 height) whole (λ r c. cond (inside width height r c) (inputAt (now (rgba .entry)) width r c .v) 128) (now (v .entry)) ⌝ }
+{
+    pad_plane(y, width, height, 0);
+    pad_plane(u, width, height, 128);
+    pad_plane(v, width, height, 128);
+    forward_rows(rgba, width, height, y, u, v);
+}

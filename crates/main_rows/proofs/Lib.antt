@@ -1,2 +1,0 @@
--- What one row of the main view does to a plane.
-pub mod Rows

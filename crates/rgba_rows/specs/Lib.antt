@@ -1,2 +1,0 @@
--- The rows of a picture that is made from RGBA pixels.
-pub mod Rows

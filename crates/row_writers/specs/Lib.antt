@@ -1,2 +1,0 @@
--- What the row writers ask.
-pub mod Fits

@@ -1,0 +1,32 @@
+-- The tests of one view's planes, one after the other. Assumes nothing.
+use Prim.Native.Nat.{_/_}
+use mathlib.Core.Path.{_≡_}
+use mathlib.Core.Bool.{Bool, true, false, _||_}
+use Rattle.lent.specs.Sizes.{tooShort}
+use Rattle.lent.proofs.Bools.{or-left, or-right}
+use Rattle.picture.specs.declared.Size.{Size}
+use Rattle.picture.specs.Sizes.{strideOf, rowsOf}
+use Rattle.split.specs.declared.number.PlaneLengths.{PlaneLengths}
+use Rattle.split.specs.Number.{viewShort}
+
+module _ (z : Size) (n : PlaneLengths) where
+  abbrev y-short : Bool
+  y-short = tooShort (strideOf z) (rowsOf z) (n .y)
+
+  abbrev u-short : Bool
+  u-short = tooShort (strideOf z / 2) (rowsOf z / 2) (n .u)
+
+  abbrev v-short : Bool
+  v-short = tooShort (strideOf z / 2) (rowsOf z / 2) (n .v)
+
+  pub short-1 : tooShort (strideOf z) (rowsOf z) (n .y) ≡ true → viewShort z n ≡ true
+  unfolding viewShort
+  short-1 e = or-left (y-short || u-short) v-short (or-left y-short u-short e)
+
+  pub short-2 : tooShort (strideOf z / 2) (rowsOf z / 2) (n .u) ≡ true → viewShort z n ≡ true
+  unfolding viewShort
+  short-2 e = or-left (y-short || u-short) v-short (or-right y-short u-short e)
+
+  pub short-3 : tooShort (strideOf z) (rowsOf z) (n .y) ≡ false → tooShort (strideOf z / 2) (rowsOf z / 2) (n .u) ≡ false → viewShort z n ≡ tooShort (strideOf z / 2) (rowsOf z / 2) (n .v)
+  unfolding viewShort
+  short-3 e f = rw (e, f)

@@ -1,2 +1,0 @@
--- Which planes the chroma planes of the auxiliary view are.
-pub mod Planes

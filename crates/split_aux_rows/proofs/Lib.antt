@@ -1,2 +1,0 @@
--- What a row of the auxiliary view holds, case by case.
-pub mod Spots

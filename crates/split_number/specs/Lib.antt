@@ -1,2 +1,0 @@
--- What number a split answers, and with what sizes.
-pub mod Number

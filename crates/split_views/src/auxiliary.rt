@@ -1,0 +1,98 @@
+// The planes of the auxiliary view of a split, in either layout.
+//
+// Each writer promises every byte of the plane that it is lent, and no byte after it: what the auxiliary view holds is said by layout's
+// map alone (split_views, specs/Views.antt). One row at a time, by the writers of split_aux_rows and split_rows.
+ghost use mathlib.Core.Path.{_≡_};
+ghost use Prim.Native.Nat.{_+_, _*_, _/_, _<_, _≤_};
+ghost use lib.ListN.{length};
+ghost use Rattle.lent.specs.Paint.{painted, whole};
+ghost use Rattle.layout.specs.Maps.{PY};
+ghost use Rattle.split_views.specs.Views.{planes, auxSample, v2ChromaSample, Written};
+ghost use Rattle.split_views.specs.Fits.{Whole, Room};
+ghost use Rattle.split_views.specs.Chroma.{chromaSample};
+use layout::Layout;
+
+// The luma plane.
+fn luma(layout: Layout, out: &mut [u8], u: &[u8], v: &[u8], stride: usize, rows: usize)
+    requires { ⌜ rows * stride ≤ length (now out) ⌝ }
+    requires { ⌜ Whole (length (now u)) stride rows ⌝ }
+    requires { ⌜ Whole (length (now v)) stride rows ⌝ }
+    ensures { λ _. ⌜ now (out .exit) ≡ painted stride rows whole (auxSample layout stride (now (u .entry)) (now (v .entry)) PY) (now (out .entry)) ⌝ }
+{
+    let mut row = 0;
+    while row < rows {
+        let line = row * stride;
+        crate::auxiliary_rows::luma_row(layout, &mut out[line..line + stride], u, v, stride, row);
+        row += 1;
+    }
+}
+
+// V2's U plane, or its V plane: odd rows of the picture, from column 0 or 2 on.
+fn v2_chroma(out: &mut [u8], u: &[u8], v: &[u8], stride: usize, rows: usize, first: usize)
+    requires { ⌜ rows / 2 * (stride / 2) ≤ length (now out) ⌝ }
+    requires { ⌜ Whole (length (now u)) stride rows ⌝ }
+    requires { ⌜ Whole (length (now v)) stride rows ⌝ }
+    requires { ⌜ first < 4 ⌝ }
+    ensures { λ _. ⌜ now (out .exit) ≡ painted (stride / 2) (rows / 2) whole (λ r. v2ChromaSample stride (now (u .entry)) (now (v .entry)) first (2 * r + 1)) (now (out .entry)) ⌝ }
+{
+    let half = stride / 2;
+    let high = rows / 2;
+    let mut row = 0;
+    while row < high {
+        let line = row * half;
+        crate::auxiliary_rows::v2_chroma_row(
+            &mut out[line..line + half],
+            u,
+            v,
+            stride,
+            2 * row + 1,
+            first,
+        );
+        row += 1;
+    }
+}
+
+// The U plane, or the V plane: in V1 from the picture's plane of the same name, `own`, in V2 from both, every fourth column from `first` on.
+fn chroma(
+    layout: Layout,
+    out: &mut [u8],
+    own: &[u8],
+    u: &[u8],
+    v: &[u8],
+    stride: usize,
+    rows: usize,
+    first: usize,
+)
+    requires { ⌜ rows / 2 * (stride / 2) ≤ length (now out) ⌝ }
+    requires { ⌜ Whole (length (now own)) stride rows ⌝ }
+    requires { ⌜ Whole (length (now u)) stride rows ⌝ }
+    requires { ⌜ Whole (length (now v)) stride rows ⌝ }
+    requires { ⌜ first < 4 ⌝ }
+    ensures { λ _. ⌜ now (out .exit) ≡ painted (stride / 2) (rows / 2) whole (chromaSample layout stride (now (own .entry)) (now (u .entry)) (now (v .entry)) first) (now (out .entry)) ⌝ }
+{
+    match layout {
+        Layout::V1 => crate::half_plane(out, own, stride, rows, 1),
+        Layout::V2 => v2_chroma(out, u, v, stride, rows, first),
+    }
+}
+
+// The auxiliary view.
+pub fn aux_view(
+    layout: Layout,
+    u: &[u8],
+    v: &[u8],
+    stride: usize,
+    rows: usize,
+    aux_y: &mut [u8],
+    aux_u: &mut [u8],
+    aux_v: &mut [u8],
+)
+    requires { ⌜ Whole (length (now u)) stride rows ⌝ }
+    requires { ⌜ Whole (length (now v)) stride rows ⌝ }
+    requires { ⌜ Room (length (now «aux_y»)) (length (now «aux_u»)) (length (now «aux_v»)) stride rows ⌝ }
+    ensures { λ _. ⌜ Written stride rows (auxSample layout stride (now (u .entry)) (now (v .entry))) (planes (now («aux_y» .entry)) (now («aux_u» .entry)) (now («aux_v» .entry))) (planes (now («aux_y» .exit)) (now («aux_u» .exit)) (now («aux_v» .exit))) ⌝ }
+{
+    luma(layout, aux_y, u, v, stride, rows);
+    chroma(layout, aux_u, u, u, v, stride, rows, 0);
+    chroma(layout, aux_v, v, u, v, stride, rows, 2);
+}

@@ -1,0 +1,38 @@
+-- Picture to RGBA: its number, its count and every byte of its output (document 01, "Numbers a call may answer" and "Colour": "The
+-- rectangle is clipped to the picture; an empty one writes nothing and answers 0").
+--
+--   Rect                   a rectangle: left, top, right and bottom, the last two exclusive
+--   clippedOf a b n        how far it is from a to b, where the picture ends at n: 0 where nothing is left
+--   acrossOf z q, downOf z q     columns and rows of the rectangle q, clipped to the picture of size z
+--   toRgbaCountOf z q      bytes written: 4 x the clipped pixels
+--   toRgbaNumberOf z count ny nu nv nout      1, then 6: a plane is shorter than stride x rows; the output, of nout bytes, is shorter than
+--                          what would be written
+--   toRgbaOf z y u v q out       the output after a call that is not refused: rows and columns of the picture from the rectangle's top
+--                          and left on; bytes past the count stay
+use Prim.Native.Nat.{ℕ, _*_, _-_, min}
+use mathlib.Core.List.{List, [], _∷_}
+use lib.Dec.{ltb}
+use Rattle.lent.specs.Refusal.{refusal}
+use Rattle.picture.specs.declared.Size.{Size}
+use Rattle.picture.specs.Sizes.{strideOf, planesShort}
+use Rattle.to_rgba.specs.declared.Rect.{Rect}
+use Rattle.to_rgba.specs.Pictured.{pictured, shifted}
+use Rattle.to_rgba_rows.specs.Rules.{pixelAt}
+
+abbrev pub clippedOf : ℕ → ℕ → ℕ → ℕ
+clippedOf a b n = min b n - a
+
+abbrev pub acrossOf : Size → Rect → ℕ
+acrossOf z q = clippedOf (q .left) (q .right) (z .width)
+
+abbrev pub downOf : Size → Rect → ℕ
+downOf z q = clippedOf (q .top) (q .bottom) (z .height)
+
+abbrev pub toRgbaCountOf : Size → Rect → ℕ
+toRgbaCountOf z q = 4 * (acrossOf z q * downOf z q)
+
+unfoldable pub toRgbaNumberOf : Size → ℕ → ℕ → ℕ → ℕ → ℕ → ℕ
+toRgbaNumberOf z count ny nu nv nout = refusal ((planesShort z ny nu nv, 1) ∷ (ltb nout count, 6) ∷ [])
+
+unfoldable pub toRgbaOf : Size → List ℕ → List ℕ → List ℕ → Rect → List ℕ → List ℕ
+toRgbaOf z y u v q out = pictured (acrossOf z q) (downOf z q) (shifted (q .top) (q .left) (pixelAt (strideOf z) y u v)) out

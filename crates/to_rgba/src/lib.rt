@@ -1,0 +1,182 @@
+// Both conversions to RGBA: of a picture, any rectangle of it, and of a view.
+//
+// Each promises its number, its count and every byte of the output, for every input (specs/Picture.antt, specs/View.antt); neither asks
+// anything of its caller. What holds of rows of pixels is said once, over the rule that makes a pixel (specs/Pictured.antt); the rule
+// and the writers of one row are in convert_rows.
+ghost use mathlib.Core.Path.{_≡_};
+ghost use mathlib.Core.List.{[], _∷_};
+ghost use lib.ListN.{length};
+ghost use Rattle.colour.specs.Colour.{reverseOf};
+ghost use Rattle.lent.specs.Outcome.{Outcome, answerOf, lentAfter};
+ghost use Rattle.to_rgba_rows.specs.Rules.{pixelAt, viewPixelAt};
+ghost use Rattle.to_rgba_rows.specs.Fits.{RowsFit};
+ghost use Rattle.to_rgba.specs.Pictured.{pictured, shifted};
+ghost use Rattle.to_rgba.specs.Picture.{clippedOf, toRgbaCountOf, toRgbaNumberOf, toRgbaOf};
+ghost use Rattle.to_rgba.specs.View.{viewToRgbaCountOf, viewToRgbaNumberOf, viewToRgbaOf};
+ghost use Rattle.to_rgba.specs.Fits.{ViewRowsFit};
+
+// A rectangle of a picture: right and bottom are exclusive.
+pub struct Rect {
+    pub left: u16,
+    pub top: u16,
+    pub right: u16,
+    pub bottom: u16,
+}
+
+// h rows of n pixels from row `top` and column `left` of the picture on.
+fn put_rows(
+    out: &mut [u8],
+    y: &[u8],
+    u: &[u8],
+    v: &[u8],
+    stride: usize,
+    rows: usize,
+    left: usize,
+    top: usize,
+    n: usize,
+    h: usize,
+)
+    requires { ⌜ RowsFit (length (now out)) (length (now y)) (length (now u)) (length (now v)) stride rows left top n h ⌝ }
+    ensures { λ _. ⌜ now (out .exit) ≡ pictured n h (shifted top left (pixelAt stride (now (y .entry)) (now (u .entry)) (now (v .entry)))) (now (out .entry)) ⌝ }
+{
+    let wide = 4 * n;
+    let mut r: usize = 0;
+    while r < h {
+        let start = r * wide;
+        to_rgba_rows::picture_rows::put_row(
+            &mut out[start..start + wide],
+            y,
+            u,
+            v,
+            stride,
+            rows,
+            top + r,
+            left,
+            n,
+        );
+        r += 1;
+    }
+}
+
+// How far it is from a to b, or to n where that is nearer: 0 where it is not after a.
+fn clipped(a: u16, b: u16, n: u16) -> usize
+    ensures { λ r. ⌜ r ≡ clippedOf a b n ⌝ }
+{
+    let from = a as usize;
+    let to = lent::least(b as usize, n as usize);
+    if from < to { to - from } else { 0 }
+}
+
+// 0, or the refusal of picture to RGBA: ny, nu, nv and nout are the lengths of the planes and the output.
+fn to_rgba_number(
+    size: picture::Size,
+    count: usize,
+    ny: usize,
+    nu: usize,
+    nv: usize,
+    nout: usize,
+) -> u32
+    ensures { λ r. ⌜ r ≡ toRgbaNumberOf size count ny nu nv nout ⌝ }
+{
+    if picture::planes_short(size, ny, nu, nv) {
+        return 1;
+    }
+    if nout < count {
+        return 6;
+    }
+    0
+}
+
+// The rectangle of the picture, clipped to it, as RGBA. Ports `Yuv444Frame::to_rgba`.
+pub fn to_rgba(
+    size: picture::Size,
+    y: &[u8],
+    u: &[u8],
+    v: &[u8],
+    rect: Rect,
+    out: &mut [u8],
+) -> lent::Answer
+    ensures { λ r. ⌜ Outcome (answerOf (toRgbaNumberOf size (toRgbaCountOf size rect) (length (now (y .entry))) (length (now (u .entry))) (length (now (v .entry))) (length (now (out .entry)))) (toRgbaCountOf size rect)) (lentAfter (toRgbaNumberOf size (toRgbaCountOf size rect) (length (now (y .entry))) (length (now (u .entry))) (length (now (v .entry))) (length (now (out .entry)))) (now (out .entry)) (toRgbaOf size (now (y .entry)) (now (u .entry)) (now (v .entry)) rect (now (out .entry))) ∷ []) r (now (out .exit) ∷ []) ⌝ }
+{
+    let n = clipped(rect.left, rect.right, size.width);
+    let h = clipped(rect.top, rect.bottom, size.height);
+    let count = 4 * (n * h);
+    let number = to_rgba_number(size, count, y.len(), u.len(), v.len(), out.len());
+    if number != 0 {
+        return lent::Answer { number, count: 0 };
+    }
+    if 0 < count {
+        put_rows(
+            out,
+            y,
+            u,
+            v,
+            picture::stride(size),
+            picture::rows(size),
+            rect.left as usize,
+            rect.top as usize,
+            n,
+            h,
+        );
+    }
+    lent::Answer { number: 0, count }
+}
+
+// The h rows of a view, n pixels each; luma and chroma are its strides.
+fn view_rows(
+    out: &mut [u8],
+    y: &[u8],
+    u: &[u8],
+    v: &[u8],
+    luma: usize,
+    chroma: usize,
+    n: usize,
+    h: usize,
+)
+    requires { ⌜ ViewRowsFit (length (now out)) (length (now y)) (length (now u)) (length (now v)) luma chroma n h ⌝ }
+    ensures { λ _. ⌜ now (out .exit) ≡ pictured n h (viewPixelAt reverseOf luma chroma (now (y .entry)) (now (u .entry)) (now (v .entry))) (now (out .entry)) ⌝ }
+{
+    let wide = 4 * n;
+    let mut r: usize = 0;
+    while r < h {
+        let start = r * wide;
+        to_rgba_rows::view_rows::view_row(&mut out[start..start + wide], y, u, v, luma, chroma, r, n);
+        r += 1;
+    }
+}
+
+// 0, or the refusal of view to RGBA: nout is the length of the output.
+fn view_to_rgba_number(
+    w: view::View,
+    count: usize,
+    y: &[u8],
+    u: &[u8],
+    v: &[u8],
+    nout: usize,
+) -> u32
+    ensures { λ r. ⌜ r ≡ viewToRgbaNumberOf w count (length (now (y .entry))) (length (now (u .entry))) (length (now (v .entry))) nout ⌝ }
+{
+    let number = view::view_number(w, y, u, v);
+    if number != 0 {
+        return number;
+    }
+    if nout < count {
+        return 6;
+    }
+    0
+}
+
+// The view as RGBA. Ports `Yuv420Frame::to_rgba`.
+pub fn view_to_rgba(w: view::View, y: &[u8], u: &[u8], v: &[u8], out: &mut [u8]) -> lent::Answer
+    ensures { λ r. ⌜ Outcome (answerOf (viewToRgbaNumberOf w (viewToRgbaCountOf w) (length (now (y .entry))) (length (now (u .entry))) (length (now (v .entry))) (length (now (out .entry)))) (viewToRgbaCountOf w)) (lentAfter (viewToRgbaNumberOf w (viewToRgbaCountOf w) (length (now (y .entry))) (length (now (u .entry))) (length (now (v .entry))) (length (now (out .entry)))) (now (out .entry)) (viewToRgbaOf reverseOf w (now (y .entry)) (now (u .entry)) (now (v .entry)) (now (out .entry))) ∷ []) r (now (out .exit) ∷ []) ⌝ }
+{
+    let n = w.width as usize;
+    let h = w.height as usize;
+    let count = 4 * (n * h);
+    let number = view_to_rgba_number(w, count, y, u, v, out.len());
+    if number != 0 {
+        return lent::Answer { number, count: 0 };
+    }
+    view_rows(out, y, u, v, w.luma_stride, w.chroma_stride, n, h);
+    lent::Answer { number: 0, count }
+}

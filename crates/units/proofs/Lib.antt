@@ -1,2 +1,0 @@
--- The laws of units.
-pub mod Units

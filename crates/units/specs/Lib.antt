@@ -1,2 +1,0 @@
--- The units of an H.264 payload.
-pub mod Units

@@ -1,0 +1,22 @@
+-- `view::rows::luma_row` meets its contract: the view's number and the plane's sizes, handed to `row_part`.
+-- Assumes nothing.
+use borrow.Author.Needs.{needs}
+use Rattle.view.proofs.Exactly.{luma-fits}
+use Rattle.view.proofs.RowLaws.{row-asks, row-is}
+use Rattle.view.proofs.rows.luma_row.Statement.{statement}
+use Rattle.view.proofs.rows.luma_row.Tie as tie
+
+view-number-requires : tie.Need-view-number-requires
+view-number-requires c κs = search needs
+
+luma-requires : tie.Need-luma-requires
+luma-requires c κs = search needs
+
+row-part-requires : tie.Need-row-part-requires
+row-part-requires c κs = row-asks (c .before .view-number .ensures) (c .luma .ensures) _ (luma-fits _ _ _ _)
+
+returns : tie.Need-returns
+returns c = row-is (c .before .before .view-number .ensures) (c .before .luma .ensures) _ _ _ (c .row-part .ensures)
+
+pub luma-row-spec : {M : Type 1} → statement M
+luma-row-spec = tie.close (tie.spec view-number-requires luma-requires row-part-requires returns)

@@ -1,3 +1,0 @@
--- A view's rows, and which rows are alike.
-pub mod Rows
-pub mod Alike

@@ -1,2 +1,0 @@
--- The laws of every second place.
-pub mod Turns

@@ -1,2 +1,0 @@
--- Every second place of a row.
-pub mod Turns

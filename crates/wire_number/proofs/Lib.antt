@@ -1,3 +1,0 @@
--- The laws of the numbers.
-pub mod Number
-pub mod Exactly

@@ -1,2 +1,0 @@
--- The numbers of a call that writes a payload.
-pub mod Number

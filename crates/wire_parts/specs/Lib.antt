@@ -1,2 +1,0 @@
--- The parts of a stream of an AVC444 payload.
-pub mod Parts

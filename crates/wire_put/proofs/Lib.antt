@@ -1,2 +1,0 @@
--- The laws of the stream writer.
-pub mod Stream

@@ -1,2 +1,0 @@
--- A stream as its bytes.
-pub mod Stream
