@@ -19,18 +19,18 @@ fn both_number(
     size: Size,
     from: PlaneLengths,
     main: PlaneLengths,
-    aux: PlaneLengths,
+    auxiliary: PlaneLengths,
     first: PlaneLengths,
     second: PlaneLengths,
     nr: usize,
 ) -> u32
-    ensures { λ r. ⌜ r ≡ firstOf (firstOf (splitNumberOf size from main aux) (earlierNumberOf size first nr)) (firstOf (splitNumberOf size from main aux) (earlierNumberOf size second nr)) ⌝ }
+    ensures { λ r. ⌜ r ≡ firstOf (firstOf (splitNumberOf size from main auxiliary) (earlierNumberOf size first nr)) (firstOf (splitNumberOf size from main auxiliary) (earlierNumberOf size second nr)) ⌝ }
 {
-    let number = crate::one::through_number(size, from, main, aux, first, nr);
+    let number = crate::one::through_number(size, from, main, auxiliary, first, nr);
     if number != 0 {
         return number;
     }
-    crate::one::through_number(size, from, main, aux, second, nr)
+    crate::one::through_number(size, from, main, auxiliary, second, nr)
 }
 
 // Split as V1 onto the first earlier picture, then as V2 onto the second, over one list. The views' six buffers are the caller's, and are
@@ -44,9 +44,9 @@ pub fn both(
     main_y: &mut [u8],
     main_u: &mut [u8],
     main_v: &mut [u8],
-    aux_y: &mut [u8],
-    aux_u: &mut [u8],
-    aux_v: &mut [u8],
+    auxiliary_y: &mut [u8],
+    auxiliary_u: &mut [u8],
+    auxiliary_v: &mut [u8],
     first_y: &mut [u8],
     first_u: &mut [u8],
     first_v: &mut [u8],
@@ -54,7 +54,7 @@ pub fn both(
     second_u: &mut [u8],
     second_v: &mut [u8],
 ) -> lent::Answer
-    ensures { λ r. ⌜ BothEnds size (now (rects .entry)) (planes (now (y .entry)) (now (u .entry)) (now (v .entry))) (planes (now («main_y» .entry)) (now («main_u» .entry)) (now («main_v» .entry))) (planes (now («aux_y» .entry)) (now («aux_u» .entry)) (now («aux_v» .entry))) (planes (now («first_y» .entry)) (now («first_u» .entry)) (now («first_v» .entry))) (planes (now («second_y» .entry)) (now («second_u» .entry)) (now («second_v» .entry))) r (planes (now («main_y» .exit)) (now («main_u» .exit)) (now («main_v» .exit))) (planes (now («aux_y» .exit)) (now («aux_u» .exit)) (now («aux_v» .exit))) (planes (now («first_y» .exit)) (now («first_u» .exit)) (now («first_v» .exit))) (planes (now («second_y» .exit)) (now («second_u» .exit)) (now («second_v» .exit))) ⌝ }
+    ensures { λ r. ⌜ BothEnds size (now (rects .entry)) (planes (now (y .entry)) (now (u .entry)) (now (v .entry))) (planes (now («main_y» .entry)) (now («main_u» .entry)) (now («main_v» .entry))) (planes (now («auxiliary_y» .entry)) (now («auxiliary_u» .entry)) (now («auxiliary_v» .entry))) (planes (now («first_y» .entry)) (now («first_u» .entry)) (now («first_v» .entry))) (planes (now («second_y» .entry)) (now («second_u» .entry)) (now («second_v» .entry))) r (planes (now («main_y» .exit)) (now («main_u» .exit)) (now («main_v» .exit))) (planes (now («auxiliary_y» .exit)) (now («auxiliary_u» .exit)) (now («auxiliary_v» .exit))) (planes (now («first_y» .exit)) (now («first_u» .exit)) (now («first_v» .exit))) (planes (now («second_y» .exit)) (now («second_u» .exit)) (now («second_v» .exit))) ⌝ }
 {
     let from = PlaneLengths {
         y: y.len(),
@@ -66,10 +66,10 @@ pub fn both(
         u: main_u.len(),
         v: main_v.len(),
     };
-    let aux = PlaneLengths {
-        y: aux_y.len(),
-        u: aux_u.len(),
-        v: aux_v.len(),
+    let auxiliary = PlaneLengths {
+        y: auxiliary_y.len(),
+        u: auxiliary_u.len(),
+        v: auxiliary_v.len(),
     };
     let first = PlaneLengths {
         y: first_y.len(),
@@ -81,7 +81,7 @@ pub fn both(
         u: second_u.len(),
         v: second_v.len(),
     };
-    let number = both_number(size, from, main, aux, first, second, rects.len());
+    let number = both_number(size, from, main, auxiliary, first, second, rects.len());
     if number != 0 {
         return lent::Answer { number, count: 0 };
     }
@@ -95,9 +95,9 @@ pub fn both(
         main_y,
         main_u,
         main_v,
-        aux_y,
-        aux_u,
-        aux_v,
+        auxiliary_y,
+        auxiliary_u,
+        auxiliary_v,
         first_y,
         first_u,
         first_v,
@@ -112,9 +112,9 @@ pub fn both(
         main_y,
         main_u,
         main_v,
-        aux_y,
-        aux_u,
-        aux_v,
+        auxiliary_y,
+        auxiliary_u,
+        auxiliary_v,
         second_y,
         second_u,
         second_v,

@@ -31,13 +31,13 @@ pub fn through_number(
     size: Size,
     from: PlaneLengths,
     main: PlaneLengths,
-    aux: PlaneLengths,
+    auxiliary: PlaneLengths,
     earlier: PlaneLengths,
     nr: usize,
 ) -> u32
-    ensures { λ r. ⌜ r ≡ firstOf (splitNumberOf size from main aux) (earlierNumberOf size earlier nr) ⌝ }
+    ensures { λ r. ⌜ r ≡ firstOf (splitNumberOf size from main auxiliary) (earlierNumberOf size earlier nr) ⌝ }
 {
-    let number = split::split_number(size, from, main, aux);
+    let number = split::split_number(size, from, main, auxiliary);
     if number != 0 {
         return number;
     }
@@ -68,14 +68,14 @@ pub fn through(
     main_y: &mut [u8],
     main_u: &mut [u8],
     main_v: &mut [u8],
-    aux_y: &mut [u8],
-    aux_u: &mut [u8],
-    aux_v: &mut [u8],
+    auxiliary_y: &mut [u8],
+    auxiliary_u: &mut [u8],
+    auxiliary_v: &mut [u8],
     qy: &mut [u8],
     qu: &mut [u8],
     qv: &mut [u8],
 ) -> lent::Answer
-    ensures { λ r. ⌜ ThroughEnds layout size (now (rects .entry)) (planes (now (y .entry)) (now (u .entry)) (now (v .entry))) (planes (now («main_y» .entry)) (now («main_u» .entry)) (now («main_v» .entry))) (planes (now («aux_y» .entry)) (now («aux_u» .entry)) (now («aux_v» .entry))) (planes (now (qy .entry)) (now (qu .entry)) (now (qv .entry))) r (planes (now («main_y» .exit)) (now («main_u» .exit)) (now («main_v» .exit))) (planes (now («aux_y» .exit)) (now («aux_u» .exit)) (now («aux_v» .exit))) (planes (now (qy .exit)) (now (qu .exit)) (now (qv .exit))) ⌝ }
+    ensures { λ r. ⌜ ThroughEnds layout size (now (rects .entry)) (planes (now (y .entry)) (now (u .entry)) (now (v .entry))) (planes (now («main_y» .entry)) (now («main_u» .entry)) (now («main_v» .entry))) (planes (now («auxiliary_y» .entry)) (now («auxiliary_u» .entry)) (now («auxiliary_v» .entry))) (planes (now (qy .entry)) (now (qu .entry)) (now (qv .entry))) r (planes (now («main_y» .exit)) (now («main_u» .exit)) (now («main_v» .exit))) (planes (now («auxiliary_y» .exit)) (now («auxiliary_u» .exit)) (now («auxiliary_v» .exit))) (planes (now (qy .exit)) (now (qu .exit)) (now (qv .exit))) ⌝ }
 {
     let from = PlaneLengths {
         y: y.len(),
@@ -87,17 +87,17 @@ pub fn through(
         u: main_u.len(),
         v: main_v.len(),
     };
-    let aux = PlaneLengths {
-        y: aux_y.len(),
-        u: aux_u.len(),
-        v: aux_v.len(),
+    let auxiliary = PlaneLengths {
+        y: auxiliary_y.len(),
+        u: auxiliary_u.len(),
+        v: auxiliary_v.len(),
     };
     let earlier = PlaneLengths {
         y: qy.len(),
         u: qu.len(),
         v: qv.len(),
     };
-    let number = through_number(size, from, main, aux, earlier, rects.len());
+    let number = through_number(size, from, main, auxiliary, earlier, rects.len());
     if number != 0 {
         return lent::Answer { number, count: 0 };
     }
@@ -110,11 +110,22 @@ pub fn through(
         main_y,
         main_u,
         main_v,
-        aux_y,
-        aux_u,
-        aux_v,
+        auxiliary_y,
+        auxiliary_u,
+        auxiliary_v,
     );
     let w = view_of(views);
     apply_main::apply_main_view(size, qy, qu, qv, rects, w, main_y, main_u, main_v);
-    apply_auxiliary_view(layout, size, qy, qu, qv, rects, w, aux_y, aux_u, aux_v)
+    apply_auxiliary_view(
+        layout,
+        size,
+        qy,
+        qu,
+        qv,
+        rects,
+        w,
+        auxiliary_y,
+        auxiliary_u,
+        auxiliary_v,
+    )
 }

@@ -35,21 +35,21 @@ even-even r c e = (
 twice-half : (n : ℕ) → n % 2 ≡ 0 → 2 * (n / 2) ≡ n
 twice-half n e = omega arith
 
-module _ (m : Maps) (w : View) (z : Size) (rects : List ℕ) (p p′ q mid x : Picture) (main aux : ViewSamples)
+module _ (m : Maps) (w : View) (z : Size) (rects : List ℕ) (p p′ q mid x : Picture) (main auxiliary : ViewSamples)
     (fed : Fed m (w .width) (w .height)) (wide : strideOf z ≤ w .width) (high : rowsOf z ≤ w .height)
-    (more : Extends z p p′) (s : Steps m w z rects p′ q mid x main aux) where
+    (more : Extends z p p′) (s : Steps m w z rects p′ q mid x main auxiliary) where
   -- a place that the auxiliary view carries comes from there
   carried-chroma : (k : Chroma) (r c : ℕ) → r < rowsOf z → c < strideOf z → widened z rects r c ≡ true → leftOut r c ≡ true → x .chroma k r c ≡ p .chroma k r c
   carried-chroma k r c hr hc e o =
       let held : (j : Chroma) → carried (w .width) (w .height) (place j r c) ≡ true = λ j. carried-holds (w .width) (w .height) (place j r c) (omega arith) (omega arith) o in
       let there = present-facts (w .width) (w .height) (m .spot (place k r c)) (fed .lands (place k r c) (held k)) in
-      s .aux-chroma k r c hr hc
+      s .auxiliary-chroma k r c hr hc
       ∙ cond-true (widened z rects r c && gives m w r c) _ _
       (both (widened z rects r c) _ e
       (both (leftOut r c && present (w .width) (w .height) (m .spot (place CU r c))) _
       (both (leftOut r c) _ o (fed .lands (place CU r c) (held CU)))
       (fed .lands (place CV r c) (held CV))))
-      ∙ s .aux-is (m .spot (place k r c) .part) (m .spot (place k r c) .row) (m .spot (place k r c) .col) (there .0) (there .1)
+      ∙ s .auxiliary-is (m .spot (place k r c) .part) (m .spot (place k r c) .row) (m .spot (place k r c) .col) (there .0) (there .1)
       ∙ ap (atPlace p′) (fed .undone (place k r c) (held k))
       ∙ more .chroma k r c hr hc
 
@@ -61,7 +61,7 @@ module _ (m : Maps) (w : View) (z : Size) (rects : List ℕ) (p p′ q mid x : P
   main-chroma : (k : Chroma) (r c : ℕ) → r < rowsOf z → c < strideOf z → widened z rects r c ≡ true → leftOut r c ≡ false → x .chroma k r c ≡ p .chroma k r c
   main-chroma k r c hr hc e o =
       let even = even-even r c o in
-      s .aux-chroma k r c hr hc
+      s .auxiliary-chroma k r c hr hc
       ∙ rw (e, o)
       (s .main-chroma k r c hr hc
       ∙ cond-true (widened z rects r c && (ltb r (w .height) && ltb c (w .width))) _ _
@@ -77,7 +77,7 @@ module _ (m : Maps) (w : View) (z : Size) (rects : List ℕ) (p p′ q mid x : P
 
   luma-is : (r c : ℕ) → r < z .height → c < z .width → x .luma r c ≡ cond (inside rects r c) (main PY r c) (q .luma r c)
   luma-is r c hr hc =
-      s .aux-luma r c (omega arith) (omega arith)
+      s .auxiliary-luma r c (omega arith) (omega arith)
       ∙ s .main-luma r c (omega arith) (omega arith)
       ∙ ap (λ (b : Bool). cond b (main PY r c) (q .luma r c)) (luma-inside z w rects r c (omega arith) (omega arith) hr hc)
 
@@ -86,7 +86,7 @@ module _ (m : Maps) (w : View) (z : Size) (rects : List ℕ) (p p′ q mid x : P
     luma-inside = λ r c hr hc e. luma-is r c hr hc ∙ rw e (s .main-is PY r c (omega arith) (omega arith) ∙ more .luma r c (omega arith) (omega arith));
     luma-elsewhere = λ r c hr hc e. luma-is r c hr hc ∙ rw e;
     chroma-inside = chroma-in;
-    chroma-elsewhere = λ k r c hr hc e. s .aux-chroma k r c hr hc ∙ rw e (s .main-chroma k r c hr hc ∙ rw e);
+    chroma-elsewhere = λ k r c hr hc e. s .auxiliary-chroma k r c hr hc ∙ rw e (s .main-chroma k r c hr hc ∙ rw e);
   }
 
 -- ---- the instances: the steps are those of p itself, or of p as if its planes went on past the stride
@@ -94,14 +94,14 @@ module _ (m : Maps) (w : View) (z : Size) (rects : List ℕ) (p p′ q mid x : P
 pub itself : (z : Size) (p : Picture) → Extends z p p
 itself z p = record { luma = λ r c hr hc. refl; chroma = λ k r c hr hc. refl }
 
-module _ (w : View) (z : Size) (rects : List ℕ) (p p′ q mid x : Picture) (main aux : ViewSamples)
+module _ (w : View) (z : Size) (rects : List ℕ) (p p′ q mid x : Picture) (main auxiliary : ViewSamples)
     (wide : strideOf z ≤ w .width) (high : rowsOf z ≤ w .height) (more : Extends z p p′) where
-  pub v1-agrees : w .width % 2 ≡ 0 → w .height % 16 ≡ 0 → Steps mapsV1 w z rects p′ q mid x main aux → Agrees z rects p q x
-  v1-agrees w2 h16 s = agrees mapsV1 w z rects p p′ q mid x main aux (v1-fed (w .width) (w .height) w2 h16) wide high more s
+  pub v1-agrees : w .width % 2 ≡ 0 → w .height % 16 ≡ 0 → Steps mapsV1 w z rects p′ q mid x main auxiliary → Agrees z rects p q x
+  v1-agrees w2 h16 s = agrees mapsV1 w z rects p p′ q mid x main auxiliary (v1-fed (w .width) (w .height) w2 h16) wide high more s
 
   -- over any W that is a multiple of 4 and not below the stride
-  pub v2-agrees : w .width % 4 ≡ 0 → w .height % 2 ≡ 0 → Steps (mapsV2 (w .width)) w z rects p′ q mid x main aux → Agrees z rects p q x
-  v2-agrees w4 h2 s = agrees (mapsV2 (w .width)) w z rects p p′ q mid x main aux (v2-fed (w .width) (w .height) w4 h2) wide high more s
+  pub v2-agrees : w .width % 4 ≡ 0 → w .height % 2 ≡ 0 → Steps (mapsV2 (w .width)) w z rects p′ q mid x main auxiliary → Agrees z rects p q x
+  v2-agrees w4 h2 s = agrees (mapsV2 (w .width)) w z rects p p′ q mid x main auxiliary (v2-fed (w .width) (w .height) w4 h2) wide high more s
 
 -- ---- two earlier pictures that were one are left alike
 

@@ -22,13 +22,13 @@ use Rattle.layout.specs.Exists.{side, fed}
 use Rattle.layout.proofs.Fed.{maps-fed}
 use Rattle.rects.specs.Rects.{taken, area}
 use Rattle.apply_main.specs.Main.{mainLuma, mainChroma, halved, chromaAfter}
-use Rattle.apply_auxiliary_rows.specs.Rows.{partSample, auxSource}
-use Rattle.apply_auxiliary.specs.Auxiliary.{auxIn, auxRule, auxAfter}
+use Rattle.apply_auxiliary_rows.specs.Rows.{partSample, auxiliarySource}
+use Rattle.apply_auxiliary.specs.Auxiliary.{auxiliaryIn, auxiliaryRule, auxiliaryAfter}
 use Rattle.split_views.specs.Fits.{Room}
-use Rattle.split.specs.Split.{Planes, mainSample, auxSample, viewAfter}
+use Rattle.split.specs.Split.{Planes, mainSample, auxiliarySample, viewAfter}
 use Rattle.agree_law.specs.Agrees.{pictureOf, widened, Agrees}
-use Rattle.agree_law.specs.Steps.{ViewSamples, gives, atSpot, mainView, auxView, Steps}
-use Rattle.agree_law.specs.Through.{threeOf, viewOf, mainViewOf, auxViewOf, withMain, withAux, throughOf, throughNumberOf, Lent}
+use Rattle.agree_law.specs.Steps.{ViewSamples, gives, atSpot, mainView, auxiliaryView, Steps}
+use Rattle.agree_law.specs.Through.{threeOf, viewOf, mainViewOf, auxiliaryViewOf, withMain, withAuxiliary, throughOf, throughNumberOf, Lent}
 use Rattle.agree_law.proofs.Inside.{taken-beside}
 use Rattle.agree_law.proofs.Agree.{agrees, itself}
 use Rattle.agree_law.proofs.Number.{through-0-exactly}
@@ -52,9 +52,9 @@ main-written z p PY r c = refl
 main-written z p PU r c = refl
 main-written z p PV r c = refl
 
-aux-written : (t : Layout) (z : Size) (p : Planes) (q : Part) (r c : ℕ) → auxSample t (strideOf z) (p .u) (p .v) q r c ≡ auxView (maps t (strideOf z)) (pictureOf z p) q r c
-unfolding auxSample
-aux-written t z p q r c = refl
+auxiliary-written : (t : Layout) (z : Size) (p : Planes) (q : Part) (r c : ℕ) → auxiliarySample t (strideOf z) (p .u) (p .v) q r c ≡ auxiliaryView (maps t (strideOf z)) (pictureOf z p) q r c
+unfolding auxiliarySample
+auxiliary-written t z p q r c = refl
 
 -- what the chroma rules take over a list, with what does not look at the rectangle beside it
 main-taken : (z : Size) (rects : List ℕ) (r c : ℕ) → taken (mainChroma z (viewOf z)) rects r c ≡ (widened z rects r c && (ltb r (rowsOf z) && ltb c (strideOf z)))
@@ -63,28 +63,28 @@ main-taken z rects r c =
     taken-beside (mainChroma z (viewOf z)) (area z) (ltb r (rowsOf z) && ltb c (strideOf z)) rects r c
     (λ left top right bottom. and-assoc (area z left top right bottom r c) (ltb r (rowsOf z)) (ltb c (strideOf z)))
 
-aux-taken : (t : Layout) (z : Size) (rects : List ℕ) (r c : ℕ) → taken (auxRule t z (viewOf z)) rects r c ≡ (widened z rects r c && gives (maps t (strideOf z)) (viewOf z) r c)
-unfolding auxIn fed
-aux-taken t z rects r c = taken-beside (auxRule t z (viewOf z)) (area z) (gives (maps t (strideOf z)) (viewOf z) r c) rects r c (λ left top right bottom. refl)
+auxiliary-taken : (t : Layout) (z : Size) (rects : List ℕ) (r c : ℕ) → taken (auxiliaryRule t z (viewOf z)) rects r c ≡ (widened z rects r c && gives (maps t (strideOf z)) (viewOf z) r c)
+unfolding auxiliaryIn fed
+auxiliary-taken t z rects r c = taken-beside (auxiliaryRule t z (viewOf z)) (area z) (gives (maps t (strideOf z)) (viewOf z) r c) rects r c (λ left top right bottom. refl)
 
 module _ (t : Layout) (z : Size) (rects : List ℕ) (p m a q : Planes) (f : Lent z rects p m a q) where
   abbrev v : Planes
   v = mainViewOf z p m
 
   abbrev x : Planes
-  x = auxViewOf t z p a
+  x = auxiliaryViewOf t z p a
 
   abbrev mid : Planes
   mid = withMain z rects v q
 
   abbrev after : Planes
-  after = withAux t z rects x mid
+  after = withAuxiliary t z rects x mid
 
   abbrev main : ViewSamples
   main = partSample (viewOf z) (v .y) (v .u) (v .v)
 
-  abbrev aux : ViewSamples
-  aux = partSample (viewOf z) (x .y) (x .u) (x .v)
+  abbrev auxiliary : ViewSamples
+  auxiliary = partSample (viewOf z) (x .y) (x .u) (x .v)
 
   -- a chroma plane, with the main view applied; then with the auxiliary view applied
   main-plane : (k : Chroma) (samples plane : List ℕ) (r c : ℕ) → r < rowsOf z → c < strideOf z → rowsOf z * strideOf z ≤ length plane
@@ -95,40 +95,40 @@ module _ (t : Layout) (z : Size) (rects : List ℕ) (p m a q : Planes) (f : Lent
       sample-painted (strideOf z) (rowsOf z) (taken (mainChroma z (viewOf z)) rects) (halved samples (strideOf z / 2)) plane r c hr hc fits
       ∙ ap (λ (b : Bool). cond b (sample samples (strideOf z / 2) (r / 2) (c / 2)) (sample plane (strideOf z) r c)) (main-taken z rects r c)
 
-  aux-plane : (k : Chroma) (plane : List ℕ) (r c : ℕ) → r < rowsOf z → c < strideOf z → rowsOf z * strideOf z ≤ length plane
-      → sample (auxAfter t k z (viewOf z) rects (x .y) (x .u) (x .v) plane) (strideOf z) r c
-      ≡ cond (widened z rects r c && gives (maps t (strideOf z)) (viewOf z) r c) (atSpot aux (maps t (strideOf z) .spot (place k r c))) (sample plane (strideOf z) r c)
-  unfolding auxSource
-  aux-plane k plane r c hr hc fits =
-      sample-painted (strideOf z) (rowsOf z) (taken (auxRule t z (viewOf z)) rects) (auxSource t k (viewOf z) (x .y) (x .u) (x .v)) plane r c hr hc fits
-      ∙ ap (λ (b : Bool). cond b (atSpot aux (maps t (strideOf z) .spot (place k r c))) (sample plane (strideOf z) r c)) (aux-taken t z rects r c)
+  auxiliary-plane : (k : Chroma) (plane : List ℕ) (r c : ℕ) → r < rowsOf z → c < strideOf z → rowsOf z * strideOf z ≤ length plane
+      → sample (auxiliaryAfter t k z (viewOf z) rects (x .y) (x .u) (x .v) plane) (strideOf z) r c
+      ≡ cond (widened z rects r c && gives (maps t (strideOf z)) (viewOf z) r c) (atSpot auxiliary (maps t (strideOf z) .spot (place k r c))) (sample plane (strideOf z) r c)
+  unfolding auxiliarySource
+  auxiliary-plane k plane r c hr hc fits =
+      sample-painted (strideOf z) (rowsOf z) (taken (auxiliaryRule t z (viewOf z)) rects) (auxiliarySource t k (viewOf z) (x .y) (x .u) (x .v)) plane r c hr hc fits
+      ∙ ap (λ (b : Bool). cond b (atSpot auxiliary (maps t (strideOf z) .spot (place k r c))) (sample plane (strideOf z) r c)) (auxiliary-taken t z rects r c)
 
   main-chroma : (k : Chroma) (r c : ℕ) → r < rowsOf z → c < strideOf z
       → pictureOf z mid .chroma k r c ≡ cond (widened z rects r c && (ltb r (rowsOf z) && ltb c (strideOf z))) (main (partOf k) (r / 2) (c / 2)) (pictureOf z q .chroma k r c)
   main-chroma CU r c hr hc = main-plane CU (v .u) (q .u) r c hr hc (f .earlier .u-fits)
   main-chroma CV r c hr hc = main-plane CV (v .v) (q .v) r c hr hc (f .earlier .v-fits)
 
-  aux-chroma : (k : Chroma) (r c : ℕ) → r < rowsOf z → c < strideOf z
+  auxiliary-chroma : (k : Chroma) (r c : ℕ) → r < rowsOf z → c < strideOf z
       → pictureOf z after .chroma k r c
-      ≡ cond (widened z rects r c && gives (maps t (strideOf z)) (viewOf z) r c) (atSpot aux (maps t (strideOf z) .spot (place k r c))) (pictureOf z mid .chroma k r c)
-  aux-chroma CU r c hr hc = aux-plane CU (mid .u) r c hr hc (rw length-painted (f .earlier .u-fits))
-  aux-chroma CV r c hr hc = aux-plane CV (mid .v) r c hr hc (rw length-painted (f .earlier .v-fits))
+      ≡ cond (widened z rects r c && gives (maps t (strideOf z)) (viewOf z) r c) (atSpot auxiliary (maps t (strideOf z) .spot (place k r c))) (pictureOf z mid .chroma k r c)
+  auxiliary-chroma CU r c hr hc = auxiliary-plane CU (mid .u) r c hr hc (rw length-painted (f .earlier .u-fits))
+  auxiliary-chroma CV r c hr hc = auxiliary-plane CV (mid .v) r c hr hc (rw length-painted (f .earlier .v-fits))
 
-  steps : Steps (maps t (strideOf z)) (viewOf z) z rects (pictureOf z p) (pictureOf z q) (pictureOf z mid) (pictureOf z after) main aux
+  steps : Steps (maps t (strideOf z)) (viewOf z) z rects (pictureOf z p) (pictureOf z q) (pictureOf z mid) (pictureOf z after) main auxiliary
   steps = record {
     main-is = λ s r c hr hc. written z (mainSample (strideOf z) p) m (f .main) s r c hr hc ∙ main-written z p s r c;
-    aux-is = λ s r c hr hc. written z (auxSample t (strideOf z) (p .u) (p .v)) a (f .aux) s r c hr hc ∙ aux-written t z p s r c;
+    auxiliary-is = λ s r c hr hc. written z (auxiliarySample t (strideOf z) (p .u) (p .v)) a (f .auxiliary) s r c hr hc ∙ auxiliary-written t z p s r c;
     main-luma = λ r c hr hc. sample-painted (strideOf z) (rowsOf z) (taken (mainLuma z (viewOf z)) rects) (sample (v .y) (strideOf z)) (q .y) r c hr hc (f .earlier .y-fits);
     main-chroma = main-chroma;
-    aux-luma = λ r c hr hc. refl;
-    aux-chroma = aux-chroma;
+    auxiliary-luma = λ r c hr hc. refl;
+    auxiliary-chroma = auxiliary-chroma;
   }
 
   -- demand 3, of the calls' definitions, in either layout
   pub lent-agrees : Agrees z rects (pictureOf z p) (pictureOf z q) (pictureOf z (throughOf t z rects p m a q))
   unfolding throughOf
   lent-agrees =
-      agrees (maps t (strideOf z)) (viewOf z) z rects (pictureOf z p) (pictureOf z p) (pictureOf z q) (pictureOf z mid) (pictureOf z after) main aux
+      agrees (maps t (strideOf z)) (viewOf z) z rects (pictureOf z p) (pictureOf z p) (pictureOf z q) (pictureOf z mid) (pictureOf z after) main auxiliary
       (maps-fed t (strideOf z) (rowsOf z) (omega arith) (omega arith)) (omega arith) (omega arith) (itself z (pictureOf z p)) steps
 
 pub through-agrees : (t : Layout) (z : Size) (rects : List ℕ) (p m a q : Planes) → throughNumberOf t z rects p m a q ≡ 0

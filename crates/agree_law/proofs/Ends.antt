@@ -14,11 +14,11 @@ use Rattle.layout.specs.declared.Layout.{Layout}
 use Rattle.layout.specs.declared.Layout.the-variants.{V1, V2}
 use Rattle.rects.specs.Number.{lentNumberOf}
 use Rattle.apply_main.specs.Main.{mainBuffersOf, MainOutcome}
-use Rattle.apply_auxiliary.specs.Auxiliary.{auxBuffersOf, AuxOutcome}
+use Rattle.apply_auxiliary.specs.Auxiliary.{auxiliaryBuffersOf, AuxiliaryOutcome}
 use Rattle.split.specs.declared.number.Views.{Views}
-use Rattle.split.specs.Split.{Planes, lengthsOf, mainSample, auxSample, viewAfter, splitNumberOf, splitAnswerOf, splitBuffersOf, SplitEnds}
+use Rattle.split.specs.Split.{Planes, lengthsOf, mainSample, auxiliarySample, viewAfter, splitNumberOf, splitAnswerOf, splitBuffersOf, SplitEnds}
 use Rattle.agree_law.specs.Agrees.{pictureOf, Agrees}
-use Rattle.agree_law.specs.Through.{buffersIn, threeOf, viewOf, viewIn, mainViewOf, auxViewOf, withMain, throughOf, firstOf, applyNumberOn, throughNumberOf, earlierNumberOf, planesAfter, throughBuffersOf, ThroughEnds}
+use Rattle.agree_law.specs.Through.{buffersIn, threeOf, viewOf, viewIn, mainViewOf, auxiliaryViewOf, withMain, throughOf, firstOf, applyNumberOn, throughNumberOf, earlierNumberOf, planesAfter, throughBuffersOf, ThroughEnds}
 use Rattle.agree_law.specs.Both.{secondOf, bothNumberOf, bothBuffersOf, BothEnds}
 use Rattle.agree_law.proofs.Number.{first-zero, through-plainly}
 use Rattle.agree_law.proofs.Calls.{through-agrees}
@@ -39,7 +39,7 @@ module _ (t : Layout) (z : Size) (rects : List ℕ) (p m a q : Planes) where
       record {
         ends = record {
           answer = answer-none num;
-          buffers = λ i. planes-refused _ m (mainViewOf z p m) not-zero i ++ (planes-refused _ a (auxViewOf t z p a) not-zero i ++ planes-refused _ q (throughOf t z rects p m a q) not-zero i);
+          buffers = λ i. planes-refused _ m (mainViewOf z p m) not-zero i ++ (planes-refused _ a (auxiliaryViewOf t z p a) not-zero i ++ planes-refused _ q (throughOf t z rects p m a q) not-zero i);
         };
         agrees = λ e. absurd (f e);
       }
@@ -47,23 +47,23 @@ module _ (t : Layout) (z : Size) (rects : List ℕ) (p m a q : Planes) where
   module _ (zero : throughNumberOf t z rects p m a q ≡ 0) {r : Views} {w : View} {r₁ r₂ : Answer} {m′ a′ mid x : Planes}
       (split : SplitEnds t z p m a r (buffersIn m′ ++ buffersIn a′)) (sized : w ≡ viewIn r)
       (first : MainOutcome z w rects (m′ .y) (m′ .u) (m′ .v) (q .y) (q .u) (q .v) r₁ (buffersIn mid))
-      (second : AuxOutcome t z w rects (a′ .y) (a′ .u) (a′ .v) (mid .y) (mid .u) (mid .v) r₂ (buffersIn x)) where
+      (second : AuxiliaryOutcome t z w rects (a′ .y) (a′ .u) (a′ .v) (mid .y) (mid .u) (mid .v) r₂ (buffersIn x)) where
     -- each step would answer 0
     zeros : (splitNumberOf z (lengthsOf p) (lengthsOf m) (lengthsOf a) ≡ 0)
-        × ((applyNumberOn z rects (mainViewOf z p m) q ≡ 0) × (applyNumberOn z rects (auxViewOf t z p a) (withMain z rects (mainViewOf z p m) q) ≡ 0))
+        × ((applyNumberOn z rects (mainViewOf z p m) q ≡ 0) × (applyNumberOn z rects (auxiliaryViewOf t z p a) (withMain z rects (mainViewOf z p m) q) ≡ 0))
     unfolding throughNumberOf
     zeros = let f = first-zero (splitNumberOf z (lengthsOf p) (lengthsOf m) (lengthsOf a)) _ zero in (f .0, first-zero (applyNumberOn z rects (mainViewOf z p m) q) _ (f .1))
 
     -- what the split left
-    views : (buffersIn m′ ++ buffersIn a′) ≡ (buffersIn (mainViewOf z p m) ++ buffersIn (auxViewOf t z p a))
+    views : (buffersIn m′ ++ buffersIn a′) ≡ (buffersIn (mainViewOf z p m) ++ buffersIn (auxiliaryViewOf t z p a))
     unfolding splitBuffersOf
-    views = split .buffers ∙ ap (λ (n : ℕ). viewAfter n z (mainSample (strideOf z) p) m ++ viewAfter n z (auxSample t (strideOf z) (p .u) (p .v)) a) (zeros .0)
+    views = split .buffers ∙ ap (λ (n : ℕ). viewAfter n z (mainSample (strideOf z) p) m ++ viewAfter n z (auxiliarySample t (strideOf z) (p .u) (p .v)) a) (zeros .0)
 
     main-is : m′ ≡ mainViewOf z p m
     main-is = ap threeOf views
 
-    aux-is : a′ ≡ auxViewOf t z p a
-    aux-is = ap (λ (l : List (List ℕ)). threeOf (drop 3 l)) views
+    auxiliary-is : a′ ≡ auxiliaryViewOf t z p a
+    auxiliary-is = ap (λ (l : List (List ℕ)). threeOf (drop 3 l)) views
 
     size-is : w ≡ viewOf z
     size-is = sized ∙ ap viewIn (split .answer) ∙ ap (λ (n : ℕ). viewIn (splitAnswerOf z n)) (zeros .0)
@@ -78,22 +78,22 @@ module _ (t : Layout) (z : Size) (rects : List ℕ) (p m a q : Planes) where
 
     -- the auxiliary view's number, as the call worked it out
     last-zero : lentNumberOf z w rects (a′ .y) (a′ .u) (a′ .v) (mid .y) (mid .u) (mid .v) ≡ 0
-    last-zero = (λ i. lentNumberOf z (size-is i) rects (aux-is i .y) (aux-is i .u) (aux-is i .v) (mid-is i .y) (mid-is i .u) (mid-is i .v)) ∙ zeros .1 .1
+    last-zero = (λ i. lentNumberOf z (size-is i) rects (auxiliary-is i .y) (auxiliary-is i .u) (auxiliary-is i .v) (mid-is i .y) (mid-is i .u) (mid-is i .v)) ∙ zeros .1 .1
 
     after-is : x ≡ throughOf t z rects p m a q
     unfolding throughOf
     after-is =
         ap threeOf
         (second .buffers
-        ∙ ap (λ (n : ℕ). auxBuffersOf n t z w rects (a′ .y) (a′ .u) (a′ .v) (mid .y) (mid .u) (mid .v)) last-zero
-        ∙ (λ i. auxBuffersOf 0 t z (size-is i) rects (aux-is i .y) (aux-is i .u) (aux-is i .v) (mid-is i .y) (mid-is i .u) (mid-is i .v)))
+        ∙ ap (λ (n : ℕ). auxiliaryBuffersOf n t z w rects (a′ .y) (a′ .u) (a′ .v) (mid .y) (mid .u) (mid .v)) last-zero
+        ∙ (λ i. auxiliaryBuffersOf 0 t z (size-is i) rects (auxiliary-is i .y) (auxiliary-is i .u) (auxiliary-is i .v) (mid-is i .y) (mid-is i .u) (mid-is i .v)))
 
     pub through-done : ThroughEnds t z rects p m a q r₂ m′ a′ x
     unfolding throughBuffersOf
     through-done = record {
       ends = record {
         answer = second .answer ∙ ap (λ (n : ℕ). answerOf n 0) (last-zero ∙ sym zero);
-        buffers = (λ i. buffersIn (main-is i) ++ (buffersIn (aux-is i) ++ buffersIn (after-is i))) ∙ ap (λ (n : ℕ). throughBuffersOf n t z rects p m a q) (sym zero);
+        buffers = (λ i. buffersIn (main-is i) ++ (buffersIn (auxiliary-is i) ++ buffersIn (after-is i))) ∙ ap (λ (n : ℕ). throughBuffersOf n t z rects p m a q) (sym zero);
       };
       agrees = λ e. subst (λ (y : Planes). Agrees z rects (pictureOf z p) (pictureOf z q) (pictureOf z y)) (sym after-is) (through-agrees t z rects p m a q zero);
     }
@@ -113,9 +113,9 @@ module _ (t : Layout) (z : Size) (rects : List ℕ) (p m a q : Planes) (zero : t
   unfolding throughBuffersOf
   main-left = ap threeOf left
 
-  aux-left : a′ ≡ auxViewOf t z p a
+  auxiliary-left : a′ ≡ auxiliaryViewOf t z p a
   unfolding throughBuffersOf
-  aux-left = ap (λ (l : List (List ℕ)). threeOf (drop 3 l)) left
+  auxiliary-left = ap (λ (l : List (List ℕ)). threeOf (drop 3 l)) left
 
   earlier-left : x ≡ throughOf t z rects p m a q
   unfolding throughBuffersOf
@@ -130,7 +130,7 @@ module _ (z : Size) (rects : List ℕ) (p m a q q′ : Planes) where
         ends = record {
           answer = answer-none is;
           buffers = λ i. planes-refused _ m (mainViewOf z p (mainViewOf z p m)) not-zero i
-              ++ (planes-refused _ a (auxViewOf V2 z p (auxViewOf V1 z p a)) not-zero i
+              ++ (planes-refused _ a (auxiliaryViewOf V2 z p (auxiliaryViewOf V1 z p a)) not-zero i
               ++ (planes-refused _ q (throughOf V1 z rects p m a q) not-zero i
               ++ planes-refused _ q′ (secondOf z rects p m a q′) not-zero i));
         };
@@ -140,18 +140,18 @@ module _ (z : Size) (rects : List ℕ) (p m a q q′ : Planes) where
 
   module _ (zero : bothNumberOf z rects p m a q q′ ≡ 0) {r₁ r₂ : Answer} {m₁ a₁ x m₂ a₂ x′ : Planes}
       (one : ThroughEnds V1 z rects p m a q r₁ m₁ a₁ x) (two : ThroughEnds V2 z rects p m₁ a₁ q′ r₂ m₂ a₂ x′) where
-    both-zeros : (throughNumberOf V1 z rects p m a q ≡ 0) × (throughNumberOf V2 z rects p (mainViewOf z p m) (auxViewOf V1 z p a) q′ ≡ 0)
+    both-zeros : (throughNumberOf V1 z rects p m a q ≡ 0) × (throughNumberOf V2 z rects p (mainViewOf z p m) (auxiliaryViewOf V1 z p a) q′ ≡ 0)
     unfolding bothNumberOf
     both-zeros = first-zero (throughNumberOf V1 z rects p m a q) _ zero
 
     main-first : m₁ ≡ mainViewOf z p m
     main-first = main-left V1 z rects p m a q (both-zeros .0) one
 
-    aux-first : a₁ ≡ auxViewOf V1 z p a
-    aux-first = aux-left V1 z rects p m a q (both-zeros .0) one
+    auxiliary-first : a₁ ≡ auxiliaryViewOf V1 z p a
+    auxiliary-first = auxiliary-left V1 z rects p m a q (both-zeros .0) one
 
     then-zero : throughNumberOf V2 z rects p m₁ a₁ q′ ≡ 0
-    then-zero = (λ i. throughNumberOf V2 z rects p (main-first i) (aux-first i) q′) ∙ both-zeros .1
+    then-zero = (λ i. throughNumberOf V2 z rects p (main-first i) (auxiliary-first i) q′) ∙ both-zeros .1
 
     pub both-done : BothEnds z rects p m a q q′ r₂ m₂ a₂ x x′
     unfolding bothBuffersOf
@@ -160,13 +160,13 @@ module _ (z : Size) (rects : List ℕ) (p m a q q′ : Planes) where
         answer = answered V2 z rects p m₁ a₁ q′ then-zero two ∙ ap (λ (n : ℕ). answerOf n 0) (sym zero);
         buffers =
             (λ i. buffersIn (main-left V2 z rects p m₁ a₁ q′ then-zero two i)
-            ++ (buffersIn (aux-left V2 z rects p m₁ a₁ q′ then-zero two i)
+            ++ (buffersIn (auxiliary-left V2 z rects p m₁ a₁ q′ then-zero two i)
             ++ (buffersIn (earlier-left V1 z rects p m a q (both-zeros .0) one i)
             ++ buffersIn (earlier-left V2 z rects p m₁ a₁ q′ then-zero two i))))
             ∙ (λ i. buffersIn (mainViewOf z p (main-first i))
-            ++ (buffersIn (auxViewOf V2 z p (aux-first i))
+            ++ (buffersIn (auxiliaryViewOf V2 z p (auxiliary-first i))
             ++ (buffersIn (throughOf V1 z rects p m a q)
-            ++ buffersIn (throughOf V2 z rects p (main-first i) (aux-first i) q′))))
+            ++ buffersIn (throughOf V2 z rects p (main-first i) (auxiliary-first i) q′))))
             ∙ ap (λ (n : ℕ). bothBuffersOf n z rects p m a q q′) (sym zero);
       };
       first = λ e. one .agrees (ap (λ (r : Answer). r .number) (answered V1 z rects p m a q (both-zeros .0) one));

@@ -28,7 +28,7 @@ use Rattle.split_views.specs.Fits.{Room}
 use Rattle.split.specs.Split.{Planes, lengthsOf, viewShort, splitNumberOf}
 use Rattle.split.proofs.Calls.{view-room}
 use Rattle.split.proofs.Exactly.{split-0-exactly, small-exactly}
-use Rattle.agree_law.specs.Through.{viewOf, mainViewOf, auxViewOf, withMain, firstOf, applyNumberOn, throughNumberOf, earlierNumberOf, Lent}
+use Rattle.agree_law.specs.Through.{viewOf, mainViewOf, auxiliaryViewOf, withMain, firstOf, applyNumberOn, throughNumberOf, earlierNumberOf, Lent}
 use Rattle.agree_law.specs.Both.{bothNumberOf}
 
 -- ---- the first of two numbers
@@ -59,8 +59,8 @@ first-passed {n} {m} {j} {k} is zero then = then ∙ sym (cond-true (eqb m 0) k 
 pub main-view-lengths : (z : Size) (p m : Planes) → lengthsOf (mainViewOf z p m) ≡ lengthsOf m
 main-view-lengths z p m = simp length-painted
 
-pub aux-view-lengths : (t : Layout) (z : Size) (p a : Planes) → lengthsOf (auxViewOf t z p a) ≡ lengthsOf a
-aux-view-lengths t z p a = simp length-painted
+pub auxiliary-view-lengths : (t : Layout) (z : Size) (p a : Planes) → lengthsOf (auxiliaryViewOf t z p a) ≡ lengthsOf a
+auxiliary-view-lengths t z p a = simp length-painted
 
 pub with-main-lengths : (z : Size) (rects : List ℕ) (v q : Planes) → lengthsOf (withMain z rects v q) ≡ lengthsOf q
 with-main-lengths z rects v q = simp length-painted
@@ -89,8 +89,8 @@ module _ (t : Layout) (z : Size) (rects : List ℕ) (p m a q : Planes) where
       first-same (splitNumberOf z (lengthsOf p) (lengthsOf m) (lengthsOf a)) _ _
       (λ none. let long = nor (viewShort z (lengthsOf m)) _ .0 (split-0-exactly z (lengthsOf p) (lengthsOf m) (lengthsOf a) .0 none .1 .1) in
       let main = apply-plainly z rects (mainViewOf z p m) q (ap (viewShort z) (main-view-lengths z p m) ∙ long .0) in
-      let aux = apply-plainly z rects (auxViewOf t z p a) (withMain z rects (mainViewOf z p m) q) (ap (viewShort z) (aux-view-lengths t z p a) ∙ long .1) in
-      (λ i. firstOf (main i) ((aux ∙ ap (λ (n : PlaneLengths). earlierNumberOf z n (length rects)) (with-main-lengths z rects (mainViewOf z p m) q)) i))
+      let auxiliary = apply-plainly z rects (auxiliaryViewOf t z p a) (withMain z rects (mainViewOf z p m) q) (ap (viewShort z) (auxiliary-view-lengths t z p a) ∙ long .1) in
+      (λ i. firstOf (main i) ((auxiliary ∙ ap (λ (n : PlaneLengths). earlierNumberOf z n (length rects)) (with-main-lengths z rects (mainViewOf z p m) q)) i))
       ∙ cond-same (eqb (earlierNumberOf z (lengthsOf q) (length rects)) 0) _)
 
 -- of the two walks: the views' buffers are as long the second time
@@ -100,8 +100,8 @@ pub both-plainly : (z : Size) (rects : List ℕ) (p m a q q′ : Planes)
 unfolding bothNumberOf
 both-plainly z rects p m a q q′ =
     λ i. firstOf (through-plainly V1 z rects p m a q i)
-    ((through-plainly V2 z rects p (mainViewOf z p m) (auxViewOf V1 z p a) q′
-    ∙ (λ j. firstOf (splitNumberOf z (lengthsOf p) (main-view-lengths z p m j) (aux-view-lengths V1 z p a j)) (earlierNumberOf z (lengthsOf q′) (length rects)))) i)
+    ((through-plainly V2 z rects p (mainViewOf z p m) (auxiliaryViewOf V1 z p a) q′
+    ∙ (λ j. firstOf (splitNumberOf z (lengthsOf p) (main-view-lengths z p m j) (auxiliary-view-lengths V1 z p a j)) (earlierNumberOf z (lengthsOf q′) (length rects)))) i)
 
 -- ---- 0, exactly when
 
@@ -145,14 +145,14 @@ module _ (z : Size) (rects : List ℕ) (p m a q : Planes) where
         fours = fours-exactly (length rects) .0 (e .1);
         picture = planes-fit z _ _ _ (f .0);
         main = view-room z (lengthsOf m) (long .0);
-        aux = view-room z (lengthsOf a) (long .1);
+        auxiliary = view-room z (lengthsOf a) (long .1);
         earlier = planes-fit z _ _ _ (e .0);
       }
 
   accepted : Lent z rects p m a q → (split-number ≡ 0) × (earlierNumberOf z (lengthsOf q) (length rects) ≡ 0)
   accepted l = (
     split-0-exactly z (lengthsOf p) (lengthsOf m) (lengthsOf a) .1
-        (planes-long z _ _ _ (l .picture), (small-exactly z .1 (l .wide, l .high), nor (viewShort z (lengthsOf m)) _ .1 (view-long z (lengthsOf m) (l .main), view-long z (lengthsOf a) (l .aux)))),
+        (planes-long z _ _ _ (l .picture), (small-exactly z .1 (l .wide, l .high), nor (viewShort z (lengthsOf m)) _ .1 (view-long z (lengthsOf m) (l .main), view-long z (lengthsOf a) (l .auxiliary)))),
     earlier-0-exactly z (lengthsOf q) (length rects) .1 (planes-long z _ _ _ (l .earlier), fours-exactly (length rects) .1 (l .fours)),
   )
 

@@ -17,14 +17,14 @@ use Rattle.picture.specs.declared.Size.{Size}
 use Rattle.picture.specs.Sizes.{strideOf, rowsOf}
 use Rattle.layout.specs.declared.Chroma.{Chroma}
 use Rattle.rects.specs.Rects.{Rule, taken, area}
-use Rattle.split.specs.Split.{Planes, chromaOf}
+use Rattle.split.specs.Split.{Planes, pickChroma}
 
 pub record Picture : Type 0 where
   pub luma : ℕ → ℕ → ℕ
   pub chroma : Chroma → ℕ → ℕ → ℕ
 
 abbrev pub pictureOf : Size → Planes → Picture
-pictureOf z p = record { luma = sample (p .y) (strideOf z); chroma = λ k. sample (chromaOf k (p .u) (p .v)) (strideOf z) }
+pictureOf z p = record { luma = sample (p .y) (strideOf z); chroma = λ k. sample (pickChroma k (p .u) (p .v)) (strideOf z) }
 
 abbrev pub inRect : Rule
 inRect left top right bottom = box top bottom left right

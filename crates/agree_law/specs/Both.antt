@@ -15,19 +15,19 @@ use Rattle.picture.specs.declared.Size.{Size}
 use Rattle.layout.specs.declared.Layout.the-variants.{V1, V2}
 use Rattle.split.specs.Split.{Planes}
 use Rattle.agree_law.specs.Agrees.{pictureOf, Agrees}
-use Rattle.agree_law.specs.Through.{buffersIn, mainViewOf, auxViewOf, throughOf, firstOf, throughNumberOf, planesAfter}
+use Rattle.agree_law.specs.Through.{buffersIn, mainViewOf, auxiliaryViewOf, throughOf, firstOf, throughNumberOf, planesAfter}
 
 abbrev pub secondOf : Size → List ℕ → Planes → Planes → Planes → Planes → Planes
-secondOf z rects p m a q′ = throughOf V2 z rects p (mainViewOf z p m) (auxViewOf V1 z p a) q′
+secondOf z rects p m a q′ = throughOf V2 z rects p (mainViewOf z p m) (auxiliaryViewOf V1 z p a) q′
 
 unfoldable pub bothNumberOf : Size → List ℕ → Planes → Planes → Planes → Planes → Planes → ℕ
 bothNumberOf z rects p m a q q′ =
-    firstOf (throughNumberOf V1 z rects p m a q) (throughNumberOf V2 z rects p (mainViewOf z p m) (auxViewOf V1 z p a) q′)
+    firstOf (throughNumberOf V1 z rects p m a q) (throughNumberOf V2 z rects p (mainViewOf z p m) (auxiliaryViewOf V1 z p a) q′)
 
 unfoldable pub bothBuffersOf : ℕ → Size → List ℕ → Planes → Planes → Planes → Planes → Planes → List (List ℕ)
 bothBuffersOf n z rects p m a q q′ =
     planesAfter n m (mainViewOf z p (mainViewOf z p m))
-    ++ (planesAfter n a (auxViewOf V2 z p (auxViewOf V1 z p a))
+    ++ (planesAfter n a (auxiliaryViewOf V2 z p (auxiliaryViewOf V1 z p a))
     ++ (planesAfter n q (throughOf V1 z rects p m a q)
     ++ planesAfter n q′ (secondOf z rects p m a q′)))
 

@@ -4,8 +4,8 @@
 --   ViewSamples           what the planes of a view hold, by row and column
 --   gives m w r c         the auxiliary view gives U and V at this row and column: layout's `fed`, of any maps
 --   Extends z p p′        p′ holds what p does in the padded planes: p′ may be p itself, or p as if its planes went on past the stride
---   Steps m w z rects p q mid x main aux      the views main and aux are the split of p by the maps m, mid is the earlier picture q
---                         with main applied over the list, and x is mid with aux applied
+--   Steps m w z rects p q mid x main auxiliary      the views main and auxiliary are the split of p by the maps m, mid is the earlier picture q
+--                         with main applied over the list, and x is mid with auxiliary applied
 use Prim.Native.Nat.{ℕ, _*_, _/_, _<_}
 use mathlib.Core.Path.{_≡_}
 use mathlib.Core.Bool.{Bool, cond, _&&_}
@@ -44,19 +44,19 @@ mainView p PY r c = p .luma r c
 mainView p PU r c = p .chroma CU (2 * r) (2 * c)
 mainView p PV r c = p .chroma CV (2 * r) (2 * c)
 
-abbrev pub auxView : Maps → Picture → ViewSamples
-auxView m p q r c = atPlace p (m .place (spot q r c))
+abbrev pub auxiliaryView : Maps → Picture → ViewSamples
+auxiliaryView m p q r c = atPlace p (m .place (spot q r c))
 
 pub record Extends (z : Size) (p p′ : Picture) : Type 0 where
   pub luma : (r c : ℕ) → r < rowsOf z → c < strideOf z → p′ .luma r c ≡ p .luma r c
   pub chroma : (k : Chroma) (r c : ℕ) → r < rowsOf z → c < strideOf z → p′ .chroma k r c ≡ p .chroma k r c
 
-pub record Steps (m : Maps) (w : View) (z : Size) (rects : List ℕ) (p q mid x : Picture) (main aux : ViewSamples) : Type 0 where
+pub record Steps (m : Maps) (w : View) (z : Size) (rects : List ℕ) (p q mid x : Picture) (main auxiliary : ViewSamples) : Type 0 where
   pub main-is : (t : Part) (r c : ℕ) → r < side t (w .height) → c < side t (w .width) → main t r c ≡ mainView p t r c
-  pub aux-is : (t : Part) (r c : ℕ) → r < side t (w .height) → c < side t (w .width) → aux t r c ≡ auxView m p t r c
+  pub auxiliary-is : (t : Part) (r c : ℕ) → r < side t (w .height) → c < side t (w .width) → auxiliary t r c ≡ auxiliaryView m p t r c
   pub main-luma : (r c : ℕ) → r < rowsOf z → c < strideOf z → mid .luma r c ≡ cond (taken (mainLuma z w) rects r c) (main PY r c) (q .luma r c)
   pub main-chroma : (k : Chroma) (r c : ℕ) → r < rowsOf z → c < strideOf z
       → mid .chroma k r c ≡ cond (widened z rects r c && (ltb r (w .height) && ltb c (w .width))) (main (partOf k) (r / 2) (c / 2)) (q .chroma k r c)
-  pub aux-luma : (r c : ℕ) → r < rowsOf z → c < strideOf z → x .luma r c ≡ mid .luma r c
-  pub aux-chroma : (k : Chroma) (r c : ℕ) → r < rowsOf z → c < strideOf z
-      → x .chroma k r c ≡ cond (widened z rects r c && gives m w r c) (atSpot aux (m .spot (place k r c))) (mid .chroma k r c)
+  pub auxiliary-luma : (r c : ℕ) → r < rowsOf z → c < strideOf z → x .luma r c ≡ mid .luma r c
+  pub auxiliary-chroma : (k : Chroma) (r c : ℕ) → r < rowsOf z → c < strideOf z
+      → x .chroma k r c ≡ cond (widened z rects r c && gives m w r c) (atSpot auxiliary (m .spot (place k r c))) (mid .chroma k r c)

@@ -4,9 +4,9 @@
 --   viewOf z                 the size of both views of a split: stride by rows, luma stride the stride, chroma stride half of it
 --   viewIn r                 the same, as a split's answer r has it
 --   mainViewOf z p m         the buffers m of the main view, once a split of the picture p has written them
---   auxViewOf t z p a        the same of the auxiliary view, in the layout t
+--   auxiliaryViewOf t z p a        the same of the auxiliary view, in the layout t
 --   withMain z rects v q     the picture q, once the main view v is applied over the list
---   withAux t z rects v q    the picture q, once the auxiliary view v is applied over the list
+--   withAuxiliary t z rects v q    the picture q, once the auxiliary view v is applied over the list
 --   throughOf t z rects p m a q      the earlier picture q after the three steps
 --   firstOf n k              n where it is a refusal, else k
 --   applyNumberOn z rects v q        the number of an apply call of the view v, of a split's size, onto the picture q
@@ -32,11 +32,11 @@ use Rattle.view.specs.declared.View.{View}
 use Rattle.layout.specs.declared.Layout.{Layout}
 use Rattle.rects.specs.Number.{notFours, lentNumberOf}
 use Rattle.apply_main.specs.Main.{mainBuffersOf}
-use Rattle.apply_auxiliary.specs.Auxiliary.{auxBuffersOf}
+use Rattle.apply_auxiliary.specs.Auxiliary.{auxiliaryBuffersOf}
 use Rattle.split.specs.declared.number.PlaneLengths.{PlaneLengths}
 use Rattle.split.specs.declared.number.Views.{Views}
 use Rattle.split_views.specs.Fits.{Room}
-use Rattle.split.specs.Split.{Planes, planes, lengthsOf, mainSample, auxSample, viewAfter, splitNumberOf}
+use Rattle.split.specs.Split.{Planes, planes, lengthsOf, mainSample, auxiliarySample, viewAfter, splitNumberOf}
 use Rattle.agree_law.specs.Agrees.{pictureOf, Agrees}
 
 abbrev pub buffersIn : Planes → List (List ℕ)
@@ -59,17 +59,17 @@ viewIn r = record { width = r .width; height = r .height; «luma_stride» = r .�
 abbrev pub mainViewOf : Size → Planes → Planes → Planes
 mainViewOf z p m = threeOf (viewAfter 0 z (mainSample (strideOf z) p) m)
 
-abbrev pub auxViewOf : Layout → Size → Planes → Planes → Planes
-auxViewOf t z p a = threeOf (viewAfter 0 z (auxSample t (strideOf z) (p .u) (p .v)) a)
+abbrev pub auxiliaryViewOf : Layout → Size → Planes → Planes → Planes
+auxiliaryViewOf t z p a = threeOf (viewAfter 0 z (auxiliarySample t (strideOf z) (p .u) (p .v)) a)
 
 abbrev pub withMain : Size → List ℕ → Planes → Planes → Planes
 withMain z rects v q = threeOf (mainBuffersOf 0 z (viewOf z) rects (v .y) (v .u) (v .v) (q .y) (q .u) (q .v))
 
-abbrev pub withAux : Layout → Size → List ℕ → Planes → Planes → Planes
-withAux t z rects v q = threeOf (auxBuffersOf 0 t z (viewOf z) rects (v .y) (v .u) (v .v) (q .y) (q .u) (q .v))
+abbrev pub withAuxiliary : Layout → Size → List ℕ → Planes → Planes → Planes
+withAuxiliary t z rects v q = threeOf (auxiliaryBuffersOf 0 t z (viewOf z) rects (v .y) (v .u) (v .v) (q .y) (q .u) (q .v))
 
 unfoldable pub throughOf : Layout → Size → List ℕ → Planes → Planes → Planes → Planes → Planes
-throughOf t z rects p m a q = withAux t z rects (auxViewOf t z p a) (withMain z rects (mainViewOf z p m) q)
+throughOf t z rects p m a q = withAuxiliary t z rects (auxiliaryViewOf t z p a) (withMain z rects (mainViewOf z p m) q)
 
 abbrev pub firstOf : ℕ → ℕ → ℕ
 firstOf n k = cond (eqb n 0) k n
@@ -81,7 +81,7 @@ unfoldable pub throughNumberOf : Layout → Size → List ℕ → Planes → Pla
 throughNumberOf t z rects p m a q =
     firstOf (splitNumberOf z (lengthsOf p) (lengthsOf m) (lengthsOf a))
     (firstOf (applyNumberOn z rects (mainViewOf z p m) q)
-    (applyNumberOn z rects (auxViewOf t z p a) (withMain z rects (mainViewOf z p m) q)))
+    (applyNumberOn z rects (auxiliaryViewOf t z p a) (withMain z rects (mainViewOf z p m) q)))
 
 unfoldable pub earlierNumberOf : Size → PlaneLengths → ℕ → ℕ
 earlierNumberOf z n nr = refusal ((planesShort z (n .y) (n .u) (n .v), 1) ∷ (notFours nr, 7) ∷ [])
@@ -92,7 +92,7 @@ pub record Lent (z : Size) (rects : List ℕ) (p m a q : Planes) : Type 0 where
   pub fours : length rects % 4 ≡ 0
   pub picture : PlanesFit z (length (p .y)) (length (p .u)) (length (p .v))
   pub main : Room (length (m .y)) (length (m .u)) (length (m .v)) (strideOf z) (rowsOf z)
-  pub aux : Room (length (a .y)) (length (a .u)) (length (a .v)) (strideOf z) (rowsOf z)
+  pub auxiliary : Room (length (a .y)) (length (a .u)) (length (a .v)) (strideOf z) (rowsOf z)
   pub earlier : PlanesFit z (length (q .y)) (length (q .u)) (length (q .v))
 
 abbrev pub planesAfter : ℕ → Planes → Planes → List (List ℕ)
@@ -100,7 +100,7 @@ planesAfter n old new = lentAfter n (old .y) (new .y) ∷ lentAfter n (old .u) (
 
 unfoldable pub throughBuffersOf : ℕ → Layout → Size → List ℕ → Planes → Planes → Planes → Planes → List (List ℕ)
 throughBuffersOf n t z rects p m a q =
-    planesAfter n m (mainViewOf z p m) ++ (planesAfter n a (auxViewOf t z p a) ++ planesAfter n q (throughOf t z rects p m a q))
+    planesAfter n m (mainViewOf z p m) ++ (planesAfter n a (auxiliaryViewOf t z p a) ++ planesAfter n q (throughOf t z rects p m a q))
 
 pub record ThroughEnds (t : Layout) (z : Size) (rects : List ℕ) (p m a q : Planes) (r : Answer) (m′ a′ x : Planes) : Type 0 where
   pub ends : Outcome (answerOf (throughNumberOf t z rects p m a q) 0) (throughBuffersOf (throughNumberOf t z rects p m a q) t z rects p m a q)

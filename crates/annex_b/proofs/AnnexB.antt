@@ -50,11 +50,6 @@ annex-never-longer s = omega (arith, units-within 0 (omega arith))
         (λ at p h. omega (arith, summed-none s at p))
         (λ at p ih h. let f = unitAt-facts s at p in let n = summed-more f in omega (arith, ih (f .within)))
 
--- and the count is as many bytes as are written
-pub annex-count : (s : List ℕ) → length (annexed (unitsFrom s 0)) ≡ countOf s
-unfolding countOf
-annex-count s = length-annexed (unitsFrom s 0)
-
 -- "a length of 0 writes the start code alone", wherever the unit stands, and the conversion goes on
 pub annex-empty-unit : (s : List ℕ) (at : ℕ) → unitAt s at ≡ true → unitLengthOf s at ≡ 0 → annexed (unitsFrom s at) ≡ startCode ++ annexed (unitsFrom s (at + 4))
 annex-empty-unit s at p z =

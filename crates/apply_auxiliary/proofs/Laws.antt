@@ -27,57 +27,57 @@ use Rattle.layout.proofs.Pairs.{fed-facts}
 use Rattle.rects.specs.Rects.{rectAtOf, nth, taken, chromaBlockAreaOf, inArea, NoArea}
 use Rattle.rects.proofs.Rects.{AllIn, taken-facts, list-same, list-none, list-empty}
 use Rattle.rects.specs.Number.{lentNumberOf}
-use Rattle.apply_auxiliary_rows.specs.Rows.{partSample, viewSample, auxSource}
+use Rattle.apply_auxiliary_rows.specs.Rows.{partSample, viewSample, auxiliarySource}
 use Rattle.apply_auxiliary_rows.proofs.Columns.{painted-join}
-use Rattle.apply_auxiliary.specs.Auxiliary.{auxIn, auxRule, auxAfter, auxBuffersOf, AuxOutcome}
-use Rattle.apply_auxiliary.proofs.Taken.{auxIn-facts}
+use Rattle.apply_auxiliary.specs.Auxiliary.{auxiliaryIn, auxiliaryRule, auxiliaryAfter, auxiliaryBuffersOf, AuxiliaryOutcome}
+use Rattle.apply_auxiliary.proofs.Taken.{auxiliaryIn-facts}
 
 -- ---- how a call ends
 
 module _ (t : Layout) (z : Size) (w : View) (rects vy vu vv y u v : List ℕ) where
-  pub aux-unique : (r q : Answer) (rs qs : List (List ℕ)) → AuxOutcome t z w rects vy vu vv y u v r rs → AuxOutcome t z w rects vy vu vv y u v q qs → (r ≡ q) × (rs ≡ qs)
-  aux-unique = outcome-unique (λ (n : ℕ). answerOf n 0) (λ n. auxBuffersOf n t z w rects vy vu vv y u v) (lentNumberOf z w rects vy vu vv y u v)
+  pub auxiliary-unique : (r q : Answer) (rs qs : List (List ℕ)) → AuxiliaryOutcome t z w rects vy vu vv y u v r rs → AuxiliaryOutcome t z w rects vy vu vv y u v q qs → (r ≡ q) × (rs ≡ qs)
+  auxiliary-unique = outcome-unique (λ (n : ℕ). answerOf n 0) (λ n. auxiliaryBuffersOf n t z w rects vy vu vv y u v) (lentNumberOf z w rects vy vu vv y u v)
 
   -- luma is never touched by an auxiliary view, refused or done
-  pub aux-luma : (r : Answer) (y′ u′ v′ : List ℕ) → AuxOutcome t z w rects vy vu vv y u v r (y′ ∷ u′ ∷ v′ ∷ []) → y′ ≡ y
-  aux-luma r y′ u′ v′ o = let e = o .buffers in cc
+  pub auxiliary-luma : (r : Answer) (y′ u′ v′ : List ℕ) → AuxiliaryOutcome t z w rects vy vu vv y u v r (y′ ∷ u′ ∷ v′ ∷ []) → y′ ≡ y
+  auxiliary-luma r y′ u′ v′ o = let e = o .buffers in cc
 
 -- ---- what is taken
 
 module _ (t : Layout) (z : Size) (w : View) where
-  pub taken-fed : (rects : List ℕ) (r c : ℕ) → taken (auxRule t z w) rects r c ≡ true → fed t (w .width) (w .height) r c ≡ true
+  pub taken-fed : (rects : List ℕ) (r c : ℕ) → taken (auxiliaryRule t z w) rects r c ≡ true → fed t (w .width) (w .height) r c ≡ true
   unfolding nth
-  taken-fed rects r c e = let f = taken-facts (auxRule t z w) rects r c e in auxIn-facts t w _ r c (f .1 .1) .4
+  taken-fed rects r c e = let f = taken-facts (auxiliaryRule t z w) rects r c e in auxiliaryIn-facts t w _ r c (f .1 .1) .4
 
-  pub even-even-left : (rects : List ℕ) (r c : ℕ) → r % 2 ≡ 0 → c % 2 ≡ 0 → taken (auxRule t z w) rects r c ≡ false
+  pub even-even-left : (rects : List ℕ) (r c : ℕ) → r % 2 ≡ 0 → c % 2 ≡ 0 → taken (auxiliaryRule t z w) rects r c ≡ false
   even-even-left rects r c er ec =
       never-true _ (λ e. let f = fed-facts t (w .width) (w .height) r c (taken-fed rects r c e) in ⊎-elim (λ o. omega arith) (λ o. omega arith) (leftOut-facts r c (f .0)))
 
 module _ (t : Layout) (k : Chroma) (z : Size) (w : View) (vy vu vv plane : List ℕ) where
   -- no auxiliary view touches an even-row, even-column chroma sample
   pub even-even-kept : (rects : List ℕ) (r c : ℕ) → rowsOf z * strideOf z ≤ length plane → r < rowsOf z → c < strideOf z → r % 2 ≡ 0 → c % 2 ≡ 0
-      → getD (auxAfter t k z w rects vy vu vv plane) (r * strideOf z + c) 0 ≡ getD plane (r * strideOf z + c) 0
+      → getD (auxiliaryAfter t k z w rects vy vu vv plane) (r * strideOf z + c) 0 ≡ getD plane (r * strideOf z + c) 0
   even-even-kept rects r c fits hr hc er ec =
-      painted-at _ _ (taken (auxRule t z w) rects) (auxSource t k w vy vu vv) plane r c hr hc fits ∙ cond-false _ _ _ (even-even-left t z w rects r c er ec)
+      painted-at _ _ (taken (auxiliaryRule t z w) rects) (auxiliarySource t k w vy vu vv) plane r c hr hc fits ∙ cond-false _ _ _ (even-even-left t z w rects r c er ec)
 
   -- the same view applied twice leaves what it left once
-  pub aux-twice : (rects : List ℕ) → auxAfter t k z w rects vy vu vv (auxAfter t k z w rects vy vu vv plane) ≡ auxAfter t k z w rects vy vu vv plane
-  aux-twice rects = painted-join _ _ _ _ _ _ plane (λ r c e. e) (λ r c e. e) (λ r c e. inl e)
+  pub auxiliary-twice : (rects : List ℕ) → auxiliaryAfter t k z w rects vy vu vv (auxiliaryAfter t k z w rects vy vu vv plane) ≡ auxiliaryAfter t k z w rects vy vu vv plane
+  auxiliary-twice rects = painted-join _ _ _ _ _ _ plane (λ r c e. e) (λ r c e. e) (λ r c e. inl e)
 
   -- order and repetition have no effect
-  pub aux-same-list : (ps qs : List ℕ) → AllIn ps qs → AllIn qs ps → auxAfter t k z w ps vy vu vv plane ≡ auxAfter t k z w qs vy vu vv plane
-  aux-same-list = list-same _ _ (auxRule t z w) _ plane
+  pub auxiliary-same-list : (ps qs : List ℕ) → AllIn ps qs → AllIn qs ps → auxiliaryAfter t k z w ps vy vu vv plane ≡ auxiliaryAfter t k z w qs vy vu vv plane
+  auxiliary-same-list = list-same _ _ (auxiliaryRule t z w) _ plane
 
-  pub aux-empty-list : auxAfter t k z w [] vy vu vv plane ≡ plane
-  aux-empty-list = sym (list-empty _ _ (auxRule t z w) _ plane)
+  pub auxiliary-empty-list : auxiliaryAfter t k z w [] vy vu vv plane ≡ plane
+  auxiliary-empty-list = sym (list-empty _ _ (auxiliaryRule t z w) _ plane)
 
   -- a rectangle whose widened area is empty changes nothing: nor does a list of such
-  pub aux-empty-areas : (rects : List ℕ) → ((i : ℕ) → i < length rects / 4 → let q = rectAtOf rects i in NoArea z (q .left) (q .top) (q .right) (q .bottom))
-      → auxAfter t k z w rects vy vu vv plane ≡ plane
+  pub auxiliary-empty-areas : (rects : List ℕ) → ((i : ℕ) → i < length rects / 4 → let q = rectAtOf rects i in NoArea z (q .left) (q .top) (q .right) (q .bottom))
+      → auxiliaryAfter t k z w rects vy vu vv plane ≡ plane
   unfolding nth
-  aux-empty-areas rects empty =
-      sym (list-none _ _ (auxRule t z w) _ plane rects
-      (λ i r c lt e. let f = auxIn-facts t w _ r c e in ⊎-elim (λ h. omega arith) (λ h. omega arith) (empty i lt)))
+  auxiliary-empty-areas rects empty =
+      sym (list-none _ _ (auxiliaryRule t z w) _ plane rects
+      (λ i r c lt e. let f = auxiliaryIn-facts t w _ r c e in ⊎-elim (λ h. omega arith) (λ h. omega arith) (empty i lt)))
 
 -- ---- views that are alike
 
@@ -91,31 +91,31 @@ module _ (t : Layout) {w w′ : View} {vy vu vv vy′ vu′ vv′ : List ℕ} (a
   at-spot : (s : Spot) → present (w .width) (w .height) s ≡ true → viewSample w vy vu vv s ≡ viewSample w′ vy′ vu′ vv′ s
   at-spot s e = spot-alike (s .part) (s .row) (s .col) (present-facts (w .width) (w .height) s e)
 
-  source-alike : (k : Chroma) (r c : ℕ) → fed t (w .width) (w .height) r c ≡ true → auxSource t k w vy vu vv r c ≡ auxSource t k w′ vy′ vu′ vv′ r c
-  unfolding auxSource
+  source-alike : (k : Chroma) (r c : ℕ) → fed t (w .width) (w .height) r c ≡ true → auxiliarySource t k w vy vu vv r c ≡ auxiliarySource t k w′ vy′ vu′ vv′ r c
+  unfolding auxiliarySource
   source-alike k r c e = at-spot (maps t (w .width) .spot (place k r c)) (here k) ∙ ap (λ (n : ℕ). viewSample w′ vy′ vu′ vv′ (maps t n .spot (place k r c))) (alike .width)
     where
       here : (k : Chroma) → present (w .width) (w .height) (maps t (w .width) .spot (place k r c)) ≡ true
       here CU = fed-facts t (w .width) (w .height) r c e .1
       here CV = fed-facts t (w .width) (w .height) r c e .2
 
-  taken-alike : (z : Size) (rects : List ℕ) (r c : ℕ) → taken (auxRule t z w) rects r c ≡ taken (auxRule t z w′) rects r c
-  unfolding auxIn
+  taken-alike : (z : Size) (rects : List ℕ) (r c : ℕ) → taken (auxiliaryRule t z w) rects r c ≡ taken (auxiliaryRule t z w′) rects r c
+  unfolding auxiliaryIn
   taken-alike z rects r c = λ i. taken (λ left top right bottom r c. inArea (chromaBlockAreaOf z left top right bottom) r c && fed t (alike .width i) (alike .height i) r c) rects r c
 
   -- views that agree on the visible samples leave the same planes
-  pub aux-alike : (k : Chroma) (z : Size) (rects plane : List ℕ) → auxAfter t k z w rects vy vu vv plane ≡ auxAfter t k z w′ rects vy′ vu′ vv′ plane
-  aux-alike k z rects plane =
+  pub auxiliary-alike : (k : Chroma) (z : Size) (rects plane : List ℕ) → auxiliaryAfter t k z w rects vy vu vv plane ≡ auxiliaryAfter t k z w′ rects vy′ vu′ vv′ plane
+  auxiliary-alike k z rects plane =
       painted-ext _ _ _ _ _ _ plane (λ r c hr hc. taken-alike z rects r c) (λ r c hr hc e. source-alike k r c (taken-fed t z w rects r c e))
 
   -- and accepted calls end alike
-  pub aux-ends-alike : (z : Size) (rects y u v : List ℕ) (r r′ : Answer) (rs rs′ : List (List ℕ))
+  pub auxiliary-ends-alike : (z : Size) (rects y u v : List ℕ) (r r′ : Answer) (rs rs′ : List (List ℕ))
       → lentNumberOf z w rects vy vu vv y u v ≡ 0 → lentNumberOf z w′ rects vy′ vu′ vv′ y u v ≡ 0
-      → AuxOutcome t z w rects vy vu vv y u v r rs → AuxOutcome t z w′ rects vy′ vu′ vv′ y u v r′ rs′ → (r ≡ r′) × (rs ≡ rs′)
-  aux-ends-alike z rects y u v r r′ rs rs′ n n′ o o′ =
+      → AuxiliaryOutcome t z w rects vy vu vv y u v r rs → AuxiliaryOutcome t z w′ rects vy′ vu′ vv′ y u v r′ rs′ → (r ≡ r′) × (rs ≡ rs′)
+  auxiliary-ends-alike z rects y u v r r′ rs rs′ n n′ o o′ =
       let same = n ∙ sym n′ in (
         o .answer ∙ ap (λ (m : ℕ). answerOf m 0) same ∙ sym (o′ .answer),
         o .buffers
-            ∙ (λ i. y ∷ lentAfter (same i) u (aux-alike CU z rects u i) ∷ lentAfter (same i) v (aux-alike CV z rects v i) ∷ [])
+            ∙ (λ i. y ∷ lentAfter (same i) u (auxiliary-alike CU z rects u i) ∷ lentAfter (same i) v (auxiliary-alike CV z rects v i) ∷ [])
             ∙ sym (o′ .buffers),
       )

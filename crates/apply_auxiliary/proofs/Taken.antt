@@ -17,45 +17,45 @@ use Rattle.layout.specs.declared.Layout.{Layout}
 use Rattle.layout.specs.Exists.{fed}
 use Rattle.rects.specs.declared.Area.{Area}
 use Rattle.rects.specs.Rects.{chromaBlockAreaOf, inArea}
-use Rattle.apply_auxiliary_rows.specs.Rows.{auxRow, RowsFit}
-use Rattle.apply_auxiliary.specs.Auxiliary.{auxIn}
+use Rattle.apply_auxiliary_rows.specs.Rows.{auxiliaryRow, AreaFits}
+use Rattle.apply_auxiliary.specs.Auxiliary.{auxiliaryIn}
 
 module _ (t : Layout) (w : View) (a : Area) where
-  pub auxIn-facts : (r c : ℕ) → auxIn t w a r c ≡ true → (a .top ≤ r) × (r < a .bottom) × (a .left ≤ c) × (c < a .right) × (fed t (w .width) (w .height) r c ≡ true)
-  unfolding auxIn
-  auxIn-facts r c e =
+  pub auxiliaryIn-facts : (r c : ℕ) → auxiliaryIn t w a r c ≡ true → (a .top ≤ r) × (r < a .bottom) × (a .left ≤ c) × (c < a .right) × (fed t (w .width) (w .height) r c ≡ true)
+  unfolding auxiliaryIn
+  auxiliaryIn-facts r c e =
       let f = box-facts (a .top) (a .bottom) (a .left) (a .right) r c (both-left (inArea a r c) _ e) in
       (f .0, f .1, f .2, f .3, both-right (inArea a r c) _ e)
 
-  pub auxIn-holds : (r c : ℕ) → a .top ≤ r → r < a .bottom → a .left ≤ c → c < a .right → fed t (w .width) (w .height) r c ≡ true → auxIn t w a r c ≡ true
-  unfolding auxIn
-  auxIn-holds r c o b l h e = both (inArea a r c) _ (box-holds (a .top) (a .bottom) (a .left) (a .right) r c o b l h) e
+  pub auxiliaryIn-holds : (r c : ℕ) → a .top ≤ r → r < a .bottom → a .left ≤ c → c < a .right → fed t (w .width) (w .height) r c ≡ true → auxiliaryIn t w a r c ≡ true
+  unfolding auxiliaryIn
+  auxiliaryIn-holds r c o b l h e = both (inArea a r c) _ (box-holds (a .top) (a .bottom) (a .left) (a .right) r c o b l h) e
 
   module _ (n m : ℕ) (s : ℕ → ℕ → ℕ) (xs : List ℕ) where
-    pub area-rows-none : xs ≡ painted n m (upTo (auxIn t w a) (a .top)) s xs
-    area-rows-none = rows-none n m _ s xs (a .top) (λ r c e. auxIn-facts r c e .0)
+    pub area-rows-none : xs ≡ painted n m (upTo (auxiliaryIn t w a) (a .top)) s xs
+    area-rows-none = rows-none n m _ s xs (a .top) (λ r c e. auxiliaryIn-facts r c e .0)
 
-    pub area-rows-more : {was is : List ℕ} (row : ℕ) → a .top ≤ row → row < a .bottom → was ≡ painted n m (upTo (auxIn t w a) row) s xs
-        → is ≡ painted n m (auxRow t w row (a .left) (a .right)) s was
-        → is ≡ painted n m (upTo (auxIn t w a) (row + 1)) s xs
+    pub area-rows-more : {was is : List ℕ} (row : ℕ) → a .top ≤ row → row < a .bottom → was ≡ painted n m (upTo (auxiliaryIn t w a) row) s xs
+        → is ≡ painted n m (auxiliaryRow t w row (a .left) (a .right)) s was
+        → is ≡ painted n m (upTo (auxiliaryIn t w a) (row + 1)) s xs
     area-rows-more row low more before one =
         one
-        ∙ ap (painted n m (auxRow t w row (a .left) (a .right)) s) before
-        ∙ rows-more n m (auxIn t w a) s xs row (auxRow t w row (a .left) (a .right))
+        ∙ ap (painted n m (auxiliaryRow t w row (a .left) (a .right)) s) before
+        ∙ rows-more n m (auxiliaryIn t w a) s xs row (auxiliaryRow t w row (a .left) (a .right))
         (λ r c e. let f = rowPart-facts _ row (a .left) (a .right) r c e in
-        (f .0, auxIn-holds r c (omega arith) (omega arith) (f .1) (f .2) (subst (λ (q : ℕ). fed t (w .width) (w .height) q c ≡ true) (sym (f .0)) (f .3))))
-        (λ c hc e. let f = auxIn-facts row c e in rowPart-holds _ row (a .left) (a .right) row c refl (f .2) (f .3) (f .4))
+        (f .0, auxiliaryIn-holds r c (omega arith) (omega arith) (f .1) (f .2) (subst (λ (q : ℕ). fed t (w .width) (w .height) q c ≡ true) (sym (f .0)) (f .3))))
+        (λ c hc e. let f = auxiliaryIn-facts row c e in rowPart-holds _ row (a .left) (a .right) row c refl (f .2) (f .3) (f .4))
 
-    pub area-rows-all : {is : List ℕ} (row : ℕ) → a .bottom ≤ row → is ≡ painted n m (upTo (auxIn t w a) row) s xs → is ≡ painted n m (auxIn t w a) s xs
-    area-rows-all row end done = done ∙ rows-all n m _ s xs row (λ r c hr hc e. omega (arith, auxIn-facts r c e .1))
+    pub area-rows-all : {is : List ℕ} (row : ℕ) → a .bottom ≤ row → is ≡ painted n m (upTo (auxiliaryIn t w a) row) s xs → is ≡ painted n m (auxiliaryIn t w a) s xs
+    area-rows-all row end done = done ∙ rows-all n m _ s xs row (λ r c hr hc e. omega (arith, auxiliaryIn-facts r c e .1))
 
     -- no column, so nothing is taken
-    pub area-none : a .right ≤ a .left → xs ≡ painted n m (auxIn t w a) s xs
-    area-none none = painted-none n m _ s xs (λ r c hr hc. never-true _ (λ e. let f = auxIn-facts r c e in omega arith))
+    pub area-none : a .right ≤ a .left → xs ≡ painted n m (auxiliaryIn t w a) s xs
+    area-none none = painted-none n m _ s xs (λ r c hr hc. never-true _ (λ e. let f = auxiliaryIn-facts r c e in omega arith))
 
 -- a widened area lies in the padded planes, and its edges are even
 pub area-fits : (z : Size) (n left top right bottom : ℕ) → rowsOf z * strideOf z ≤ n
     → let a = chromaBlockAreaOf z left top right bottom in
-    a .left < a .right → RowsFit z n (a .bottom) (a .left) (a .right)
+    a .left < a .right → AreaFits z n (a .bottom) (a .left) (a .right)
 area-fits z n left top right bottom fits some =
     record { plane-fits = fits; rows-inside = omega arith; ordered = omega arith; inside = omega arith; even-left = omega arith; even-right = omega arith }

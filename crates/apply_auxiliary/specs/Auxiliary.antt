@@ -1,11 +1,11 @@
 -- The auxiliary views (document 01, "Widening, and which samples are taken": "V1 auxiliary" and "V2 auxiliary").
 --
---   auxIn t w a r c               row r, column c lies in the widened area a, and the auxiliary view w of the layout t gives both U and V
+--   auxiliaryIn t w a r c               row r, column c lies in the widened area a, and the auxiliary view w of the layout t gives both U and V
 --                                 there (layout's `fed`: the main view leaves the sample out, and the pair exists)
---   auxRule t z w                 the same of a rectangle's widened area, as a rule of `rects`
---   auxAfter t k z w rects vy vu vv plane      the chroma plane k after an accepted call: each sample that some rectangle takes is the view's
---                                 sample at its spot (`auxSource`), and every other byte is as before
---   AuxOutcome ...                how the call ends, refusals included: its number is that of the main view's call on the same buffers
+--   auxiliaryRule t z w                 the same of a rectangle's widened area, as a rule of `rects`
+--   auxiliaryAfter t k z w rects vy vu vv plane      the chroma plane k after an accepted call: each sample that some rectangle takes is the view's
+--                                 sample at its spot (`auxiliarySource`), and every other byte is as before
+--   AuxiliaryOutcome ...                how the call ends, refusals included: its number is that of the main view's call on the same buffers
 --                                 (`lentNumberOf`: 1, 7, 3, 4), and Y's bytes are as they were in every case
 use Prim.Native.Nat.{ℕ}
 use mathlib.Core.Bool.{Bool, _&&_}
@@ -23,22 +23,22 @@ use Rattle.layout.specs.Exists.{fed}
 use Rattle.rects.specs.declared.Area.{Area}
 use Rattle.rects.specs.Rects.{Rule, taken, chromaBlockAreaOf, inArea}
 use Rattle.rects.specs.Number.{lentNumberOf}
-use Rattle.apply_auxiliary_rows.specs.Rows.{auxSource}
+use Rattle.apply_auxiliary_rows.specs.Rows.{auxiliarySource}
 
-unfoldable pub auxIn : Layout → View → Area → ℕ → ℕ → Bool
-auxIn t w a r c = inArea a r c && fed t (w .width) (w .height) r c
+unfoldable pub auxiliaryIn : Layout → View → Area → ℕ → ℕ → Bool
+auxiliaryIn t w a r c = inArea a r c && fed t (w .width) (w .height) r c
 
-abbrev pub auxRule : Layout → Size → View → Rule
-auxRule t z w left top right bottom = auxIn t w (chromaBlockAreaOf z left top right bottom)
+abbrev pub auxiliaryRule : Layout → Size → View → Rule
+auxiliaryRule t z w left top right bottom = auxiliaryIn t w (chromaBlockAreaOf z left top right bottom)
 
-abbrev pub auxAfter : Layout → Chroma → Size → View → List ℕ → List ℕ → List ℕ → List ℕ → List ℕ → List ℕ
-auxAfter t k z w rects vy vu vv plane = painted (strideOf z) (rowsOf z) (taken (auxRule t z w) rects) (auxSource t k w vy vu vv) plane
+abbrev pub auxiliaryAfter : Layout → Chroma → Size → View → List ℕ → List ℕ → List ℕ → List ℕ → List ℕ → List ℕ
+auxiliaryAfter t k z w rects vy vu vv plane = painted (strideOf z) (rowsOf z) (taken (auxiliaryRule t z w) rects) (auxiliarySource t k w vy vu vv) plane
 
 -- the number n, count 0, and the three planes
-abbrev pub auxBuffersOf : ℕ → Layout → Size → View → List ℕ → List ℕ → List ℕ → List ℕ → List ℕ → List ℕ → List ℕ → List (List ℕ)
-auxBuffersOf n t z w rects vy vu vv y u v =
-    y ∷ lentAfter n u (auxAfter t CU z w rects vy vu vv u) ∷ lentAfter n v (auxAfter t CV z w rects vy vu vv v) ∷ []
+abbrev pub auxiliaryBuffersOf : ℕ → Layout → Size → View → List ℕ → List ℕ → List ℕ → List ℕ → List ℕ → List ℕ → List ℕ → List (List ℕ)
+auxiliaryBuffersOf n t z w rects vy vu vv y u v =
+    y ∷ lentAfter n u (auxiliaryAfter t CU z w rects vy vu vv u) ∷ lentAfter n v (auxiliaryAfter t CV z w rects vy vu vv v) ∷ []
 
-abbrev pub AuxOutcome : Layout → Size → View → List ℕ → List ℕ → List ℕ → List ℕ → List ℕ → List ℕ → List ℕ → Answer → List (List ℕ) → Type 0
-AuxOutcome t z w rects vy vu vv y u v =
-    Outcome (answerOf (lentNumberOf z w rects vy vu vv y u v) 0) (auxBuffersOf (lentNumberOf z w rects vy vu vv y u v) t z w rects vy vu vv y u v)
+abbrev pub AuxiliaryOutcome : Layout → Size → View → List ℕ → List ℕ → List ℕ → List ℕ → List ℕ → List ℕ → List ℕ → Answer → List (List ℕ) → Type 0
+AuxiliaryOutcome t z w rects vy vu vv y u v =
+    Outcome (answerOf (lentNumberOf z w rects vy vu vv y u v) 0) (auxiliaryBuffersOf (lentNumberOf z w rects vy vu vv y u v) t z w rects vy vu vv y u v)

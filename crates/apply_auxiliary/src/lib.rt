@@ -10,10 +10,9 @@ ghost use lib.ListN.{length};
 ghost use Rattle.lent.specs.Paint.{painted};
 ghost use Rattle.picture.specs.Sizes.{strideOf, rowsOf};
 ghost use Rattle.view.specs.View.{ViewFits};
-ghost use Rattle.layout.specs.declared.Layout.the-variants.{V1, V2};
 ghost use Rattle.rects.specs.Rects.{by};
-ghost use Rattle.apply_auxiliary_rows.specs.Rows.{auxSource, auxRow, RowsFit};
-ghost use Rattle.apply_auxiliary.specs.Auxiliary.{auxIn, auxRule, auxAfter, AuxOutcome};
+ghost use Rattle.apply_auxiliary_rows.specs.Rows.{auxiliarySource, auxiliaryRow, AreaFits};
+ghost use Rattle.apply_auxiliary.specs.Auxiliary.{auxiliaryIn, auxiliaryRule, auxiliaryAfter, AuxiliaryOutcome};
 use layout::Chroma;
 use layout::Layout;
 use picture::Size;
@@ -22,7 +21,7 @@ use rects::Rect;
 use view::View;
 
 // One row of a chroma plane, by either layout.
-fn aux_row(
+fn auxiliary_row(
     layout: Layout,
     which: Chroma,
     dst: &mut [u8],
@@ -35,18 +34,40 @@ fn aux_row(
     left: usize,
     right: usize,
 )
-    requires { ⌜ RowsFit size (length (now dst)) (row + 1) left right ⌝ }
+    requires { ⌜ AreaFits size (length (now dst)) (row + 1) left right ⌝ }
     requires { ⌜ ViewFits w (length (now vy)) (length (now vu)) (length (now vv)) ⌝ }
-    ensures { λ _. ⌜ now (dst .exit) ≡ painted (strideOf size) (rowsOf size) (auxRow layout w row left right) (auxSource layout which w (now (vy .entry)) (now (vu .entry)) (now (vv .entry))) (now (dst .entry)) ⌝ }
+    ensures { λ _. ⌜ now (dst .exit) ≡ painted (strideOf size) (rowsOf size) (auxiliaryRow layout w row left right) (auxiliarySource layout which w (now (vy .entry)) (now (vu .entry)) (now (vv .entry))) (now (dst .entry)) ⌝ }
 {
     match layout {
-        Layout::V1 => apply_auxiliary_rows::v1::v1_row(which, dst, size, w, vy, vu, vv, row, left, right),
-        Layout::V2 => apply_auxiliary_rows::v2::v2_row(which, dst, size, w, vy, vu, vv, row, left, right),
+        Layout::V1 => apply_auxiliary_rows::v1::v1_row(
+            which,
+            dst,
+            size,
+            w,
+            vy,
+            vu,
+            vv,
+            row,
+            left,
+            right,
+        ),
+        Layout::V2 => apply_auxiliary_rows::v2::v2_row(
+            which,
+            dst,
+            size,
+            w,
+            vy,
+            vu,
+            vv,
+            row,
+            left,
+            right,
+        ),
     }
 }
 
 // The rows of the area, one after the other.
-fn aux_rows(
+fn auxiliary_rows(
     layout: Layout,
     which: Chroma,
     plane: &mut [u8],
@@ -57,13 +78,13 @@ fn aux_rows(
     vu: &[u8],
     vv: &[u8],
 )
-    requires { ⌜ RowsFit size (length (now plane)) (area .bottom) (area .left) (area .right) ⌝ }
+    requires { ⌜ AreaFits size (length (now plane)) (area .bottom) (area .left) (area .right) ⌝ }
     requires { ⌜ ViewFits w (length (now vy)) (length (now vu)) (length (now vv)) ⌝ }
-    ensures { λ _. ⌜ now (plane .exit) ≡ painted (strideOf size) (rowsOf size) (auxIn layout w area) (auxSource layout which w (now (vy .entry)) (now (vu .entry)) (now (vv .entry))) (now (plane .entry)) ⌝ }
+    ensures { λ _. ⌜ now (plane .exit) ≡ painted (strideOf size) (rowsOf size) (auxiliaryIn layout w area) (auxiliarySource layout which w (now (vy .entry)) (now (vu .entry)) (now (vv .entry))) (now (plane .entry)) ⌝ }
 {
     let mut row = area.top;
     while row < area.bottom {
-        aux_row(
+        auxiliary_row(
             layout,
             which,
             plane,
@@ -81,7 +102,7 @@ fn aux_rows(
 }
 
 // What the view gives in the widened area of one rectangle.
-fn aux_rect(
+fn auxiliary_rect(
     layout: Layout,
     which: Chroma,
     plane: &mut [u8],
@@ -94,17 +115,17 @@ fn aux_rect(
 )
     requires { ⌜ rowsOf size * strideOf size ≤ length (now plane) ⌝ }
     requires { ⌜ ViewFits w (length (now vy)) (length (now vu)) (length (now vv)) ⌝ }
-    ensures { λ _. ⌜ now (plane .exit) ≡ painted (strideOf size) (rowsOf size) (by (auxRule layout size w) rect) (auxSource layout which w (now (vy .entry)) (now (vu .entry)) (now (vv .entry))) (now (plane .entry)) ⌝ }
+    ensures { λ _. ⌜ now (plane .exit) ≡ painted (strideOf size) (rowsOf size) (by (auxiliaryRule layout size w) rect) (auxiliarySource layout which w (now (vy .entry)) (now (vu .entry)) (now (vv .entry))) (now (plane .entry)) ⌝ }
 {
     let area = rects::chroma_block_area(size, rect.left, rect.top, rect.right, rect.bottom);
     if area.right <= area.left {
         return;
     }
-    aux_rows(layout, which, plane, size, area, w, vy, vu, vv);
+    auxiliary_rows(layout, which, plane, size, area, w, vy, vu, vv);
 }
 
 // What the view gives in any rectangle of the list.
-fn aux_rects(
+fn auxiliary_rects(
     layout: Layout,
     which: Chroma,
     plane: &mut [u8],
@@ -117,13 +138,13 @@ fn aux_rects(
 )
     requires { ⌜ rowsOf size * strideOf size ≤ length (now plane) ⌝ }
     requires { ⌜ ViewFits w (length (now vy)) (length (now vu)) (length (now vv)) ⌝ }
-    ensures { λ _. ⌜ now (plane .exit) ≡ auxAfter layout which size w (now (rects .entry)) (now (vy .entry)) (now (vu .entry)) (now (vv .entry)) (now (plane .entry)) ⌝ }
+    ensures { λ _. ⌜ now (plane .exit) ≡ auxiliaryAfter layout which size w (now (rects .entry)) (now (vy .entry)) (now (vu .entry)) (now (vv .entry)) (now (plane .entry)) ⌝ }
 {
     let count = rects.len() / 4;
     let mut i = 0;
     while i < count {
         let rect = rects::rect_at(rects, i);
-        aux_rect(layout, which, plane, size, rect, w, vy, vu, vv);
+        auxiliary_rect(layout, which, plane, size, rect, w, vy, vu, vv);
         i += 1;
     }
 }
@@ -141,7 +162,7 @@ pub fn apply_auxiliary_view(
     vu: &[u8],
     vv: &[u8],
 ) -> lent::Answer
-    ensures { λ r. ⌜ AuxOutcome layout size w (now (rects .entry)) (now (vy .entry)) (now (vu .entry)) (now (vv .entry)) (now (y .entry)) (now (u .entry)) (now (v .entry)) r (now (y .exit) ∷ now (u .exit) ∷ now (v .exit) ∷ []) ⌝ }
+    ensures { λ r. ⌜ AuxiliaryOutcome layout size w (now (rects .entry)) (now (vy .entry)) (now (vu .entry)) (now (vv .entry)) (now (y .entry)) (now (u .entry)) (now (v .entry)) r (now (y .exit) ∷ now (u .exit) ∷ now (v .exit) ∷ []) ⌝ }
 {
     let number = rects::apply_number(size, y.len(), u.len(), v.len(), rects.len(), w, vy, vu, vv);
     if number != 0 {
@@ -150,44 +171,10 @@ pub fn apply_auxiliary_view(
             count: 0,
         };
     }
-    aux_rects(layout, Chroma::CU, u, size, rects, w, vy, vu, vv);
-    aux_rects(layout, Chroma::CV, v, size, rects, w, vy, vu, vv);
+    auxiliary_rects(layout, Chroma::CU, u, size, rects, w, vy, vu, vv);
+    auxiliary_rects(layout, Chroma::CV, v, size, rects, w, vy, vu, vv);
     lent::Answer {
         number: 0,
         count: 0,
     }
-}
-
-// The layout V1 (the Rust's apply_auxiliary_v1).
-pub fn apply_auxiliary_v1(
-    size: Size,
-    y: &mut [u8],
-    u: &mut [u8],
-    v: &mut [u8],
-    rects: &[u16],
-    w: View,
-    vy: &[u8],
-    vu: &[u8],
-    vv: &[u8],
-) -> lent::Answer
-    ensures { λ r. ⌜ AuxOutcome V1 size w (now (rects .entry)) (now (vy .entry)) (now (vu .entry)) (now (vv .entry)) (now (y .entry)) (now (u .entry)) (now (v .entry)) r (now (y .exit) ∷ now (u .exit) ∷ now (v .exit) ∷ []) ⌝ }
-{
-    apply_auxiliary_view(Layout::V1, size, y, u, v, rects, w, vy, vu, vv)
-}
-
-// The layout V2 (the Rust's apply_auxiliary_v2).
-pub fn apply_auxiliary_v2(
-    size: Size,
-    y: &mut [u8],
-    u: &mut [u8],
-    v: &mut [u8],
-    rects: &[u16],
-    w: View,
-    vy: &[u8],
-    vu: &[u8],
-    vv: &[u8],
-) -> lent::Answer
-    ensures { λ r. ⌜ AuxOutcome V2 size w (now (rects .entry)) (now (vy .entry)) (now (vu .entry)) (now (vv .entry)) (now (y .entry)) (now (u .entry)) (now (v .entry)) r (now (y .exit) ∷ now (u .exit) ∷ now (v .exit) ∷ []) ⌝ }
-{
-    apply_auxiliary_view(Layout::V2, size, y, u, v, rects, w, vy, vu, vv)
 }

@@ -1,6 +1,6 @@
 // One row of a chroma plane takes what an auxiliary view of the layout V1 gives it.
 //
-// Each function promises every byte of the plane, in the words of `auxiliary_rows`: the columns of the row that the view feeds become the
+// Each function promises every byte of the plane, in the words of specs/Rows.antt: the columns of the row that the view feeds become the
 // view's samples, and every other byte is as before. A row of the view that is absent ends the work that reads it.
 ghost use mathlib.Core.Path.{_≡_};
 ghost use mathlib.Core.List.{List};
@@ -11,7 +11,7 @@ ghost use Rattle.lent.specs.Samples.{sample};
 ghost use Rattle.picture.specs.Sizes.{strideOf, rowsOf};
 ghost use Rattle.view.specs.View.{lumaOf, chromaOf, PlaneFits, ViewFits};
 ghost use Rattle.layout.specs.declared.Layout.the-variants.{V1};
-ghost use Rattle.apply_auxiliary_rows.specs.Rows.{auxSource, auxRow, RowsFit};
+ghost use Rattle.apply_auxiliary_rows.specs.Rows.{auxiliarySource, auxiliaryRow, AreaFits};
 use layout::Chroma;
 use picture::Size;
 use view::RowStart;
@@ -28,10 +28,10 @@ fn v1_odd_row(
     left: usize,
     right: usize,
 )
-    requires { ⌜ RowsFit size (length (now dst)) (row + 1) left right ⌝ }
+    requires { ⌜ AreaFits size (length (now dst)) (row + 1) left right ⌝ }
     requires { ⌜ PlaneFits (lumaOf w) (length (now vy)) ⌝ }
     requires { ⌜ row % 2 ≡ 1 ⌝ }
-    ensures { λ _. ⌜ ((vu vv : List ℕ) → now (dst .exit) ≡ painted (strideOf size) (rowsOf size) (auxRow V1 w row left right) (auxSource V1 which w (now (vy .entry)) vu vv) (now (dst .entry))) ⌝ }
+    ensures { λ _. ⌜ ((vu vv : List ℕ) → now (dst .exit) ≡ painted (strideOf size) (rowsOf size) (auxiliaryRow V1 w row left right) (auxiliarySource V1 which w (now (vy .entry)) vu vv) (now (dst .entry))) ⌝ }
 {
     let n = layout::upper(row);
     let RowStart::At(_below) = view::row_start(vy.len(), w.luma_stride, w.height as usize, n + 8)
@@ -61,10 +61,10 @@ fn v1_even_row(
     left: usize,
     right: usize,
 )
-    requires { ⌜ RowsFit size (length (now dst)) (row + 1) left right ⌝ }
+    requires { ⌜ AreaFits size (length (now dst)) (row + 1) left right ⌝ }
     requires { ⌜ PlaneFits (chromaOf w) (length (now samples)) ⌝ }
     requires { ⌜ row % 2 ≡ 0 ⌝ }
-    ensures { λ _. ⌜ now (dst .exit) ≡ painted (strideOf size) (rowsOf size) (auxRow V1 w row left right) (λ r c. sample (now (samples .entry)) (w .«chroma_stride») (r / 2) (c / 2)) (now (dst .entry)) ⌝ }
+    ensures { λ _. ⌜ now (dst .exit) ≡ painted (strideOf size) (rowsOf size) (auxiliaryRow V1 w row left right) (λ r c. sample (now (samples .entry)) (w .«chroma_stride») (r / 2) (c / 2)) (now (dst .entry)) ⌝ }
 {
     let wide = lent::half_up(w.width);
     let high = lent::half_up(w.height);
@@ -93,9 +93,9 @@ pub fn v1_row(
     left: usize,
     right: usize,
 )
-    requires { ⌜ RowsFit size (length (now dst)) (row + 1) left right ⌝ }
+    requires { ⌜ AreaFits size (length (now dst)) (row + 1) left right ⌝ }
     requires { ⌜ ViewFits w (length (now vy)) (length (now vu)) (length (now vv)) ⌝ }
-    ensures { λ _. ⌜ now (dst .exit) ≡ painted (strideOf size) (rowsOf size) (auxRow V1 w row left right) (auxSource V1 which w (now (vy .entry)) (now (vu .entry)) (now (vv .entry))) (now (dst .entry)) ⌝ }
+    ensures { λ _. ⌜ now (dst .exit) ≡ painted (strideOf size) (rowsOf size) (auxiliaryRow V1 w row left right) (auxiliarySource V1 which w (now (vy .entry)) (now (vu .entry)) (now (vv .entry))) (now (dst .entry)) ⌝ }
 {
     if row % 2 == 1 {
         v1_odd_row(which, dst, size, w, vy, row, left, right);

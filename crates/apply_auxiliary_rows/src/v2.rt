@@ -1,6 +1,6 @@
 // One row of a chroma plane takes what an auxiliary view of the layout V2 gives it.
 //
-// Each function promises every byte of the plane, in the words of `auxiliary_rows`: the columns of the row that the view feeds become the
+// Each function promises every byte of the plane, in the words of specs/Rows.antt: the columns of the row that the view feeds become the
 // view's samples, and every other byte is as before. A row of the view that is absent ends the work that reads it, and no other: the luma
 // part and the chroma part of a row are two works.
 ghost use mathlib.Core.Path.{_≡_};
@@ -12,7 +12,7 @@ ghost use Rattle.picture.specs.Sizes.{strideOf, rowsOf};
 ghost use Rattle.view.specs.View.{lumaOf, chromaOf, PlaneFits, ViewFits};
 ghost use Rattle.layout.specs.declared.Layout.the-variants.{V2};
 ghost use Rattle.columns.specs.Turns.{odd, even};
-ghost use Rattle.apply_auxiliary_rows.specs.Rows.{auxSource, auxRow, auxOnly, RowsFit};
+ghost use Rattle.apply_auxiliary_rows.specs.Rows.{auxiliarySource, auxiliaryRow, auxiliaryOnly, AreaFits};
 use layout::Chroma;
 use picture::Size;
 use view::RowStart;
@@ -29,9 +29,9 @@ fn v2_odds(
     left: usize,
     right: usize,
 )
-    requires { ⌜ RowsFit size (length (now dst)) (row + 1) left right ⌝ }
+    requires { ⌜ AreaFits size (length (now dst)) (row + 1) left right ⌝ }
     requires { ⌜ PlaneFits (lumaOf w) (length (now vy)) ⌝ }
-    ensures { λ _. ⌜ ((vu vv : List ℕ) → now (dst .exit) ≡ painted (strideOf size) (rowsOf size) (auxOnly odd V2 w row left right) (auxSource V2 which w (now (vy .entry)) vu vv) (now (dst .entry))) ⌝ }
+    ensures { λ _. ⌜ ((vu vv : List ℕ) → now (dst .exit) ≡ painted (strideOf size) (rowsOf size) (auxiliaryOnly odd V2 w row left right) (auxiliarySource V2 which w (now (vy .entry)) vu vv) (now (dst .entry))) ⌝ }
 {
     let RowStart::At(start) = view::row_start(vy.len(), w.luma_stride, w.height as usize, row)
     else {
@@ -59,10 +59,10 @@ fn v2_evens(
     left: usize,
     right: usize,
 )
-    requires { ⌜ RowsFit size (length (now dst)) (row + 1) left right ⌝ }
+    requires { ⌜ AreaFits size (length (now dst)) (row + 1) left right ⌝ }
     requires { ⌜ PlaneFits (chromaOf w) (length (now vu)) ⌝ }
     requires { ⌜ PlaneFits (chromaOf w) (length (now vv)) ⌝ }
-    ensures { λ _. ⌜ ((vy : List ℕ) → now (dst .exit) ≡ painted (strideOf size) (rowsOf size) (auxOnly even V2 w row left right) (auxSource V2 which w vy (now (vu .entry)) (now (vv .entry))) (now (dst .entry))) ⌝ }
+    ensures { λ _. ⌜ ((vy : List ℕ) → now (dst .exit) ≡ painted (strideOf size) (rowsOf size) (auxiliaryOnly even V2 w row left right) (auxiliarySource V2 which w vy (now (vu .entry)) (now (vv .entry))) (now (dst .entry))) ⌝ }
 {
     if row % 2 != 1 {
         return;
@@ -94,10 +94,10 @@ fn v2_together(
     left: usize,
     right: usize,
 ) -> usize
-    requires { ⌜ RowsFit size (length (now dst)) (row + 1) left right ⌝ }
+    requires { ⌜ AreaFits size (length (now dst)) (row + 1) left right ⌝ }
     requires { ⌜ ViewFits w (length (now vy)) (length (now vu)) (length (now vv)) ⌝ }
     ensures { λ mid. ⌜ (left ≤ mid) × (mid ≤ right) × (mid % 2 ≡ 0) ⌝ }
-    ensures { λ mid. ⌜ now (dst .exit) ≡ painted (strideOf size) (rowsOf size) (auxRow V2 w row left mid) (auxSource V2 which w (now (vy .entry)) (now (vu .entry)) (now (vv .entry))) (now (dst .entry)) ⌝ }
+    ensures { λ mid. ⌜ now (dst .exit) ≡ painted (strideOf size) (rowsOf size) (auxiliaryRow V2 w row left mid) (auxiliarySource V2 which w (now (vy .entry)) (now (vu .entry)) (now (vv .entry))) (now (dst .entry)) ⌝ }
 {
     if row % 2 == 0 {
         return left;
@@ -135,9 +135,9 @@ pub fn v2_row(
     left: usize,
     right: usize,
 )
-    requires { ⌜ RowsFit size (length (now dst)) (row + 1) left right ⌝ }
+    requires { ⌜ AreaFits size (length (now dst)) (row + 1) left right ⌝ }
     requires { ⌜ ViewFits w (length (now vy)) (length (now vu)) (length (now vv)) ⌝ }
-    ensures { λ _. ⌜ now (dst .exit) ≡ painted (strideOf size) (rowsOf size) (auxRow V2 w row left right) (auxSource V2 which w (now (vy .entry)) (now (vu .entry)) (now (vv .entry))) (now (dst .entry)) ⌝ }
+    ensures { λ _. ⌜ now (dst .exit) ≡ painted (strideOf size) (rowsOf size) (auxiliaryRow V2 w row left right) (auxiliarySource V2 which w (now (vy .entry)) (now (vu .entry)) (now (vv .entry))) (now (dst .entry)) ⌝ }
 {
     let mid = v2_together(which, dst, size, w, vy, vu, vv, row, left, right);
     v2_odds(which, dst, size, w, vy, row, mid, right);

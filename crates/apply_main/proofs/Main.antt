@@ -18,7 +18,7 @@ use Rattle.picture.specs.Sizes.{strideOf, rowsOf}
 use Rattle.view.specs.declared.View.{View}
 use Rattle.view.specs.declared.Plane.{Plane}
 use Rattle.view.specs.View.{lumaOf, chromaOf}
-use Rattle.apply_main.specs.Rows.{RowsFit}
+use Rattle.apply_main.specs.Rows.{MainRowsFit}
 use Rattle.apply_main.proofs.RowLaws.{upTo-facts, upTo-holds}
 use Rattle.rects.specs.Rects.{area}
 use Rattle.rects.specs.Number.{lentNumberOf}
@@ -82,9 +82,9 @@ module _ (z : Size) (w : View) (left top right bottom : ℕ) where
 
   -- what the rows ask follows from what the rectangle has; p is the plane that the code worked out
   pub luma-asks : (n m first end below : ℕ) (p : Plane) → p ≡ lumaOf w → RectFits z (lumaOf w) n m → end ≡ lumaEnd → below ≡ min bottom (z .height) → first < end
-      → RowsFit z p n m below first end end
+      → MainRowsFit z p n m below first end end
   luma-asks n m first end below p is f e b lt =
-      subst (λ (q : Plane). RowsFit z q n m below first end end) (sym is)
+      subst (λ (q : Plane). MainRowsFit z q n m below first end end) (sym is)
       (record {
         plane-fits = f .plane-fits;
         view-fits = f .view-fits;
@@ -95,9 +95,9 @@ module _ (z : Size) (w : View) (left top right bottom : ℕ) where
       })
 
   pub chroma-asks : (n m first end below : ℕ) (p : Plane) → p ≡ chromaOf w → RectFits z (chromaOf w) n m → first ≡ left / 2 * 2 → end ≡ chromaEnd → below ≡ chromaBelow → first < end
-      → RowsFit z p n m below first end (halfUp end) × (first % 2 ≡ 0)
+      → MainRowsFit z p n m below first end (halfUp end) × (first % 2 ≡ 0)
   chroma-asks n m first end below p is f a e b lt = (
-    subst (λ (q : Plane). RowsFit z q n m below first end (halfUp end)) (sym is)
+    subst (λ (q : Plane). MainRowsFit z q n m below first end (halfUp end)) (sym is)
         (record {
           plane-fits = f .plane-fits;
           view-fits = f .view-fits;

@@ -3,7 +3,7 @@
 --   mainLuma z w left top right bottom r c      "Luma: row from top to below min(bottom, height) and below vh; col from left to below the
 --                                               least of right, area right and vw"
 --   mainChroma z w left top right bottom r c    "Main: chroma at (row, col) in the area, row < vh, col < vw ..."
---   halved plane stride r c                     "... from U and V at row/2, col/2": halves are floor (said in main_rows, passed on here)
+--   halved plane stride r c                     "... from U and V at row/2, col/2": halves are floor (said in Rows.antt, passed on here)
 --   lumaAfter z w rects vy y                    Y after an accepted call: each sample that some rectangle takes comes from the view's
 --                                               luma at its own row and column, and every other byte is as before
 --   chromaAfter z w rects samples plane         the same of U or V, with that plane of the view

@@ -2,7 +2,7 @@
 -- callers, as plain inequalities: a picture's plane of n bytes is written from a view's plane p of m bytes.
 --
 --   halved plane stride r c                     "from U and V at row/2, col/2": halves are floor
---   RowsFit z p n m bottom left right to        rows below `bottom` and columns from left to below right lie in the picture's plane, and a
+--   MainRowsFit z p n m bottom left right to        rows below `bottom` and columns from left to below right lie in the picture's plane, and a
 --                                               row of the view's plane reaches to column `to`
 use Prim.Native.Nat.{ℕ, _*_, _/_, _≤_}
 use mathlib.Core.List.{List}
@@ -14,7 +14,7 @@ use Rattle.view.specs.declared.Plane.{Plane}
 unfoldable pub halved : List ℕ → ℕ → ℕ → ℕ → ℕ
 halved plane stride r c = sample plane stride (r / 2) (c / 2)
 
-pub record RowsFit (z : Size) (p : Plane) (n m bottom left right to : ℕ) : Type 0 where
+pub record MainRowsFit (z : Size) (p : Plane) (n m bottom left right to : ℕ) : Type 0 where
   pub plane-fits : rowsOf z * strideOf z ≤ n
   pub view-fits : p .height * p .stride ≤ m
   pub rows-inside : bottom ≤ rowsOf z

@@ -10,7 +10,7 @@ ghost use Rattle.lent.specs.Samples.{sample};
 ghost use Rattle.lent.specs.Sizes.{halfUp};
 ghost use Rattle.picture.specs.Sizes.{strideOf, rowsOf};
 ghost use Rattle.view.specs.View.{lumaOf, chromaOf};
-ghost use Rattle.apply_main.specs.Rows.{RowsFit};
+ghost use Rattle.apply_main.specs.Rows.{MainRowsFit};
 ghost use Rattle.rects.specs.Rects.{inArea, by};
 ghost use Rattle.apply_main.specs.Main.{mainLuma, mainChroma, halved, lumaAfter, chromaAfter, MainOutcome};
 ghost use Rattle.apply_main.specs.Fits.{RectFits};
@@ -22,7 +22,7 @@ use view::View;
 
 // The rows and columns of the area.
 fn luma_rows(y: &mut [u8], size: Size, area: Area, from: Plane, vy: &[u8])
-    requires { ⌜ RowsFit size from (length (now y)) (length (now vy)) (area .bottom) (area .left) (area .right) (area .right) ⌝ }
+    requires { ⌜ MainRowsFit size from (length (now y)) (length (now vy)) (area .bottom) (area .left) (area .right) (area .right) ⌝ }
     ensures { λ _. ⌜ now (y .exit) ≡ painted (strideOf size) (rowsOf size) (upTo (inArea area) (from .height)) (sample (now (vy .entry)) (from .stride)) (now (y .entry)) ⌝ }
 {
     let mut row = area.top;
@@ -66,7 +66,7 @@ fn luma_rects(y: &mut [u8], size: Size, rects: &[u16], w: View, vy: &[u8])
 
 // The rows and columns of the area.
 fn chroma_rows(plane: &mut [u8], size: Size, area: Area, from: Plane, samples: &[u8])
-    requires { ⌜ RowsFit size from (length (now plane)) (length (now samples)) (area .bottom) (area .left) (area .right) (halfUp (area .right)) ⌝ }
+    requires { ⌜ MainRowsFit size from (length (now plane)) (length (now samples)) (area .bottom) (area .left) (area .right) (halfUp (area .right)) ⌝ }
     requires { ⌜ area .left % 2 ≡ 0 ⌝ }
     ensures { λ _. ⌜ now (plane .exit) ≡ painted (strideOf size) (rowsOf size) (upTo (inArea area) (2 * from .height)) (halved (now (samples .entry)) (from .stride)) (now (plane .entry)) ⌝ }
 {

@@ -6,7 +6,7 @@ ghost use Rattle.lent.specs.Paint.{painted, every, rowPart, upTo};
 ghost use Rattle.lent.specs.Samples.{sample};
 ghost use Rattle.lent.specs.Sizes.{halfUp};
 ghost use Rattle.picture.specs.Sizes.{strideOf, rowsOf};
-ghost use Rattle.apply_main.specs.Rows.{halved, RowsFit};
+ghost use Rattle.apply_main.specs.Rows.{halved, MainRowsFit};
 use picture::Size;
 use view::Plane;
 use view::RowStart;
@@ -21,7 +21,7 @@ pub fn luma_row(
     from: Plane,
     vy: &[u8],
 )
-    requires { ⌜ RowsFit size from (length (now y)) (length (now vy)) (row + 1) left right right ⌝ }
+    requires { ⌜ MainRowsFit size from (length (now y)) (length (now vy)) (row + 1) left right right ⌝ }
     ensures { λ _. ⌜ now (y .exit) ≡ painted (strideOf size) (rowsOf size) (upTo (rowPart every row left right) (from .height)) (sample (now (vy .entry)) (from .stride)) (now (y .entry)) ⌝ }
 {
     let found = view::row_start(vy.len(), from.stride, from.height, row);
@@ -45,7 +45,7 @@ pub fn chroma_row(
     from: Plane,
     samples: &[u8],
 )
-    requires { ⌜ RowsFit size from (length (now plane)) (length (now samples)) (row + 1) left right (halfUp right) ⌝ }
+    requires { ⌜ MainRowsFit size from (length (now plane)) (length (now samples)) (row + 1) left right (halfUp right) ⌝ }
     requires { ⌜ left % 2 ≡ 0 ⌝ }
     ensures { λ _. ⌜ now (plane .exit) ≡ painted (strideOf size) (rowsOf size) (upTo (rowPart every row left right) (2 * from .height)) (halved (now (samples .entry)) (from .stride)) (now (plane .entry)) ⌝ }
 {

@@ -160,7 +160,8 @@ fn v1_16x12() {
     let luma = [1u8; 192];
     let chroma = [1u8; 48];
     let rect = [0u16, 0, 16, 12];
-    apply_auxiliary::apply_auxiliary_v1(
+    apply_auxiliary::apply_auxiliary_view(
+        layout::Layout::V1,
         size,
         &mut y,
         &mut u,
@@ -196,7 +197,8 @@ fn v2_width_20() {
     let luma = [1u8; 80];
     let chroma = [1u8; 20];
     let rect = [0u16, 0, 20, 4];
-    apply_auxiliary::apply_auxiliary_v2(
+    apply_auxiliary::apply_auxiliary_view(
+        layout::Layout::V2,
         size,
         &mut y,
         &mut u,

@@ -48,9 +48,3 @@ module _ (a s : ℕ) (h : a < 256) where
 
   pub filtered-byte : filteredOf a s < 256
   filtered-byte = by-change (decLt ((t - a) + (a - t)) 30)
-
-pub filter-byte : (s : List ℕ) → getD s 0 0 < 256 → filterOf s < 256
-filter-byte s h = filtered-byte (getD s 0 0) _ h
-
-pub average-byte : (s : List ℕ) → ((k : ℕ) → getD s k 0 < 256) → averageOf s < 256
-average-byte s h = omega (arith, h 0, h 1, h 2, h 3)

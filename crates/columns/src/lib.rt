@@ -1,6 +1,6 @@
 // Row writers: columns of one row of a plane become the bytes of a view's row.
 //
-// Each promises every byte of the plane: it paints some columns of one row, part by part (crate `weave`), and leaves every other byte
+// Each promises every byte of the plane: it paints some columns of one row, part by part (`weave`), and leaves every other byte
 // as it was.
 pub mod weave; // a part of a row, through a local array
 

@@ -25,7 +25,7 @@ pub fn seconds(dst: &mut [u8], src: &[u8], first: usize, n: usize)
 }
 
 // dst[2 i] is evens[i], dst[2 i + 1] is odds[i], for i below n.
-pub fn weave(dst: &mut [u8], evens: &[u8], odds: &[u8], n: usize)
+fn weave(dst: &mut [u8], evens: &[u8], odds: &[u8], n: usize)
     requires { ⌜ 2 * n ≤ length (now dst) ⌝ }
     requires { ⌜ n ≤ length (now evens) ⌝ }
     requires { ⌜ n ≤ length (now odds) ⌝ }

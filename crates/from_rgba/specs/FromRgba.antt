@@ -1,8 +1,8 @@
 -- A picture from RGBA pixels (document 01, "From RGBA", refusals 2 and 1, and the order "from RGBA 2, 1").
 --
 --   convertedOf px z r c   Y, U and V of the input's pixel at row r, column c: four bytes a pixel, red, green, blue and an alpha that is
---                          ignored (said in rgba_rows)
---   inPicture z r c        row r, column c is within the width and height; the rest of a plane is padding (said in rgba_rows)
+--                          ignored (said in Rows.antt)
+--   inPicture z r c        row r, column c is within the width and height; the rest of a plane is padding (said in Rows.antt)
 --   lumaPlane, chromaUPlane, chromaVPlane z px r c     each plane before the average: the converted pixels, and padding as in a fresh picture
 --   SamePixels z px qx     px and qx agree in the red, green and blue of every pixel of the picture: "Input after width x height x 4 bytes is
 --                          ignored, and so is its alpha"

@@ -18,7 +18,10 @@ pub extern "C" fn haythaw_avc444_read(payload: &[u8]) -> wire_read::Avc444
 
 // Rectangle i of the luma stream. 0, 9, 8 or 10.
 #[no_mangle]
-pub extern "C" fn haythaw_avc444_luma_rectangle(payload: &[u8], i: usize) -> wire_read::parts::Rectangle
+pub extern "C" fn haythaw_avc444_luma_rectangle(
+    payload: &[u8],
+    i: usize,
+) -> wire_read::parts::Rectangle
     ensures { λ r. ⌜ Outcome (rectangleAtOf (now (payload .entry)) Luma i) [] r [] ⌝ }
 {
     wire_read::parts::rectangle_at(payload, Which::Luma, i)
@@ -26,7 +29,10 @@ pub extern "C" fn haythaw_avc444_luma_rectangle(payload: &[u8], i: usize) -> wir
 
 // Rectangle i of the chroma stream. 0, 9, 8 or 10.
 #[no_mangle]
-pub extern "C" fn haythaw_avc444_chroma_rectangle(payload: &[u8], i: usize) -> wire_read::parts::Rectangle
+pub extern "C" fn haythaw_avc444_chroma_rectangle(
+    payload: &[u8],
+    i: usize,
+) -> wire_read::parts::Rectangle
     ensures { λ r. ⌜ Outcome (rectangleAtOf (now (payload .entry)) Chroma i) [] r [] ⌝ }
 {
     wire_read::parts::rectangle_at(payload, Which::Chroma, i)

@@ -3,8 +3,9 @@ ghost use mathlib.Core.List.{[], _∷_};
 ghost use Rattle.lent.specs.Outcome.{answerOf};
 ghost use Rattle.layout.specs.declared.Layout.the-variants.{V1, V2};
 ghost use Rattle.apply_main.specs.Main.{MainOutcome};
-ghost use Rattle.apply_auxiliary.specs.Auxiliary.{AuxOutcome};
+ghost use Rattle.apply_auxiliary.specs.Auxiliary.{AuxiliaryOutcome};
 ghost use Rattle.haythaw.specs.Sizes.{sizesOf, sizeOf};
+use layout::Layout;
 use picture::Size;
 use view::View;
 
@@ -58,7 +59,7 @@ pub extern "C" fn haythaw_apply_auxiliary_v1(
     view_u: &[u8],
     view_v: &[u8],
 ) -> u32
-    ensures { λ r. ⌜ AuxOutcome V1 (sizeOf width height) (sizesOf «view_width» «view_height» «luma_stride» «chroma_stride»)
+    ensures { λ r. ⌜ AuxiliaryOutcome V1 (sizeOf width height) (sizesOf «view_width» «view_height» «luma_stride» «chroma_stride»)
         (now (rects .entry)) (now («view_y» .entry)) (now («view_u» .entry)) (now («view_v» .entry))
         (now (y .entry)) (now (u .entry)) (now (v .entry))
         (answerOf r 0) (now (y .exit) ∷ now (u .exit) ∷ now (v .exit) ∷ []) ⌝ }
@@ -70,7 +71,18 @@ pub extern "C" fn haythaw_apply_auxiliary_v1(
         chroma_stride,
     };
     let size = Size { width, height };
-    apply_auxiliary::apply_auxiliary_v1(size, y, u, v, rects, w, view_y, view_u, view_v).number
+    apply_auxiliary::apply_auxiliary_view(
+        Layout::V1,
+        size,
+        y,
+        u,
+        v,
+        rects,
+        w,
+        view_y,
+        view_u,
+        view_v,
+    ).number
 }
 
 // The auxiliary view of layout V2: the chroma that the main view leaves out, within the blocks that the rectangles touch; Y is lent and
@@ -91,7 +103,7 @@ pub extern "C" fn haythaw_apply_auxiliary_v2(
     view_u: &[u8],
     view_v: &[u8],
 ) -> u32
-    ensures { λ r. ⌜ AuxOutcome V2 (sizeOf width height) (sizesOf «view_width» «view_height» «luma_stride» «chroma_stride»)
+    ensures { λ r. ⌜ AuxiliaryOutcome V2 (sizeOf width height) (sizesOf «view_width» «view_height» «luma_stride» «chroma_stride»)
         (now (rects .entry)) (now («view_y» .entry)) (now («view_u» .entry)) (now («view_v» .entry))
         (now (y .entry)) (now (u .entry)) (now (v .entry))
         (answerOf r 0) (now (y .exit) ∷ now (u .exit) ∷ now (v .exit) ∷ []) ⌝ }
@@ -103,5 +115,16 @@ pub extern "C" fn haythaw_apply_auxiliary_v2(
         chroma_stride,
     };
     let size = Size { width, height };
-    apply_auxiliary::apply_auxiliary_v2(size, y, u, v, rects, w, view_y, view_u, view_v).number
+    apply_auxiliary::apply_auxiliary_view(
+        Layout::V2,
+        size,
+        y,
+        u,
+        v,
+        rects,
+        w,
+        view_y,
+        view_u,
+        view_v,
+    ).number
 }

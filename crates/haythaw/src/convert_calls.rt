@@ -6,8 +6,8 @@ ghost use Rattle.lent.specs.Outcome.{Outcome, answerOf, lentAfter};
 ghost use Rattle.to_rgba.specs.Picture.{toRgbaCountOf, toRgbaNumberOf, toRgbaOf};
 ghost use Rattle.to_rgba.specs.View.{viewToRgbaCountOf, viewToRgbaNumberOf, viewToRgbaOf};
 ghost use Rattle.haythaw.specs.Sizes.{sizesOf, sizeOf, rectOf};
-use to_rgba::Rect;
 use picture::Size;
+use to_rgba::Rect;
 use view::View;
 
 // The rectangle of the picture, clipped to it, as RGBA, and how many bytes were written; or 1 or 6.

@@ -3,6 +3,7 @@ ghost use mathlib.Core.List.{[], _∷_};
 ghost use Rattle.layout.specs.declared.Layout.the-variants.{V1, V2};
 ghost use Rattle.split.specs.Split.{planes, SplitEnds};
 ghost use Rattle.haythaw.specs.Sizes.{sizeOf};
+use layout::Layout;
 use picture::Size;
 use split::Views;
 
@@ -17,17 +18,18 @@ pub extern "C" fn haythaw_split_v1(
     main_y: &mut [u8],
     main_u: &mut [u8],
     main_v: &mut [u8],
-    aux_y: &mut [u8],
-    aux_u: &mut [u8],
-    aux_v: &mut [u8],
+    auxiliary_y: &mut [u8],
+    auxiliary_u: &mut [u8],
+    auxiliary_v: &mut [u8],
 ) -> Views
     ensures { λ r. ⌜ SplitEnds V1 (sizeOf width height) (planes (now (y .entry)) (now (u .entry)) (now (v .entry)))
         (planes (now («main_y» .entry)) (now («main_u» .entry)) (now («main_v» .entry)))
-        (planes (now («aux_y» .entry)) (now («aux_u» .entry)) (now («aux_v» .entry))) r
+        (planes (now («auxiliary_y» .entry)) (now («auxiliary_u» .entry)) (now («auxiliary_v» .entry))) r
         (now («main_y» .exit) ∷ now («main_u» .exit) ∷ now («main_v» .exit)
-        ∷ now («aux_y» .exit) ∷ now («aux_u» .exit) ∷ now («aux_v» .exit) ∷ []) ⌝ }
+        ∷ now («auxiliary_y» .exit) ∷ now («auxiliary_u» .exit) ∷ now («auxiliary_v» .exit) ∷ []) ⌝ }
 {
-    split::split_v1(
+    split::split(
+        Layout::V1,
         Size { width, height },
         y,
         u,
@@ -35,9 +37,9 @@ pub extern "C" fn haythaw_split_v1(
         main_y,
         main_u,
         main_v,
-        aux_y,
-        aux_u,
-        aux_v,
+        auxiliary_y,
+        auxiliary_u,
+        auxiliary_v,
     )
 }
 
@@ -52,17 +54,18 @@ pub extern "C" fn haythaw_split_v2(
     main_y: &mut [u8],
     main_u: &mut [u8],
     main_v: &mut [u8],
-    aux_y: &mut [u8],
-    aux_u: &mut [u8],
-    aux_v: &mut [u8],
+    auxiliary_y: &mut [u8],
+    auxiliary_u: &mut [u8],
+    auxiliary_v: &mut [u8],
 ) -> Views
     ensures { λ r. ⌜ SplitEnds V2 (sizeOf width height) (planes (now (y .entry)) (now (u .entry)) (now (v .entry)))
         (planes (now («main_y» .entry)) (now («main_u» .entry)) (now («main_v» .entry)))
-        (planes (now («aux_y» .entry)) (now («aux_u» .entry)) (now («aux_v» .entry))) r
+        (planes (now («auxiliary_y» .entry)) (now («auxiliary_u» .entry)) (now («auxiliary_v» .entry))) r
         (now («main_y» .exit) ∷ now («main_u» .exit) ∷ now («main_v» .exit)
-        ∷ now («aux_y» .exit) ∷ now («aux_u» .exit) ∷ now («aux_v» .exit) ∷ []) ⌝ }
+        ∷ now («auxiliary_y» .exit) ∷ now («auxiliary_u» .exit) ∷ now («auxiliary_v» .exit) ∷ []) ⌝ }
 {
-    split::split_v2(
+    split::split(
+        Layout::V2,
         Size { width, height },
         y,
         u,
@@ -70,8 +73,8 @@ pub extern "C" fn haythaw_split_v2(
         main_y,
         main_u,
         main_v,
-        aux_y,
-        aux_u,
-        aux_v,
+        auxiliary_y,
+        auxiliary_u,
+        auxiliary_v,
     )
 }

@@ -29,17 +29,7 @@ module _ (k : Chroma) (r c : ℕ) where
 place-path : {k m : Chroma} {r c d : ℕ} → k ≡ m → c ≡ d → place k r c ≡ place m r d
 place-path {r = r} p q = λ i. place (p i) r (q i)
 
-pub v1-chroma-place : (k : Chroma) (r c : ℕ) → fromV1 (partOf k) r c ≡ place k (2 * r) (2 * c + 1)
-v1-chroma-place CU r c = refl
-v1-chroma-place CV r c = refl
-
 -- V2, j places into the half of k
 module _ (W : ℕ) (k : Chroma) (r j : ℕ) where
   pub v2-luma-place : j < W / 2 → fromV2 W PY r (shift k (W / 2) + j) ≡ place k r (2 * j + 1)
   v2-luma-place h = let half = half-at k (W / 2) j refl h in place-path (half .0) (rw (half .1))
-
-  pub v2-u-place : j < W / 4 → fromV2 W PU r (shift k (W / 4) + j) ≡ place k (2 * r + 1) (4 * j)
-  v2-u-place h = let half = half-at k (W / 4) j refl h in place-path (half .0) (rw (half .1))
-
-  pub v2-v-place : j < W / 4 → fromV2 W PV r (shift k (W / 4) + j) ≡ place k (2 * r + 1) (4 * j + 2)
-  v2-v-place h = let half = half-at k (W / 4) j refl h in place-path (half .0) (rw (half .1))

@@ -47,10 +47,6 @@ paint-paint t₁ t₂ s₁ s₂ [] = refl
 paint-paint t₁ t₂ s₁ s₂ (x ∷ xs) =
     λ i. cond-cond (t₁ zero) (t₂ zero) (s₁ zero) (s₂ zero) x i ∷ paint-paint (λ k. t₁ (suc k)) (λ k. t₂ (suc k)) (λ k. s₁ (suc k)) (λ k. s₂ (suc k)) xs i
 
--- two coats from one source
-pub paint-more : (t₁ t₂ : ℕ → Bool) (s : ℕ → ℕ) (xs : List ℕ) → paint t₂ s (paint t₁ s xs) ≡ paint (λ k. t₁ k || t₂ k) s xs
-paint-more t₁ t₂ s xs = paint-paint t₁ t₂ s s xs ∙ paint-ext _ _ _ _ xs (λ k h. refl) (λ k h e. cond-same (t₂ k) (s k))
-
 -- one store more
 pub paint-set : (t t′ : ℕ → Bool) (s : ℕ → ℕ) (xs : List ℕ) (i v : ℕ) → i < length xs → v ≡ s i → t′ i ≡ true → ((k : ℕ) → (k ≡ i → ⊥) → t k ≡ t′ k) → set (paint t s xs) i v ≡ paint t′ s xs
 paint-set t t′ s xs i v h e e′ f =

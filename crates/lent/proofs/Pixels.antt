@@ -12,10 +12,6 @@ use Rattle.lent.specs.Paint.{paint, every}
 use Rattle.lent.specs.Pixels.{bytes, stored, done}
 use Rattle.lent.proofs.Paint.{paint-none, paint-ext, paint-next, length-paint}
 
-pub stored-length : (xs p : List ℕ) (k : ℕ) → length (stored xs k p) ≡ length xs
-unfolding stored
-stored-length xs p k = simp length-set
-
 pub done-none : (f : ℕ → List ℕ) (xs : List ℕ) → xs ≡ done f 0 xs
 done-none f xs = paint-none _ _ xs (λ k h. le-ltb k (4 * 0) (omega arith))
 

@@ -14,7 +14,7 @@ use Rattle.picture.proofs.Sizes.{planes-fit}
 use Rattle.view.specs.declared.View.{View}
 use Rattle.view.specs.View.{narrow, planeShort, viewNumberOf}
 use Rattle.view.proofs.Exactly.{view-0-exactly, accepted-fits}
-use Rattle.rects.specs.Number.{notFours, applyNumberOf, Accepted}
+use Rattle.rects.specs.Number.{notFours, applyNumberOf, ApplyAccepted}
 
 module _ (z : Size) (w : View) (ny nu nv nr my mu mv : ℕ) where
   pub apply-0-exactly : (applyNumberOf z w ny nu nv nr my mu mv ≡ 0)
@@ -50,7 +50,7 @@ module _ (z : Size) (w : View) (ny nu nv nr my mu mv : ℕ) where
       (Iff·and (Iff·and Iff·rfl (Iff·and Iff·rfl and-true)) Iff·rfl)
 
   -- what the calls read of an accepted call
-  pub apply-fits : applyNumberOf z w ny nu nv nr my mu mv ≡ 0 → Accepted z w ny nu nv my mu mv
+  pub apply-fits : applyNumberOf z w ny nu nv nr my mu mv ≡ 0 → ApplyAccepted z w ny nu nv my mu mv
   apply-fits e =
       let t = apply-0-exactly .0 e in
       record { planes = planes-fit z ny nu nv (t .0); view = accepted-fits w my mu mv (view-0-exactly w my mu mv .1 (t .1 .1)) }

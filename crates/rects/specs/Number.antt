@@ -4,7 +4,7 @@
 --   applyNumberOf z w ny nu nv nr my mu mv     the number that the call answers, 0 or the first refusal in that order. z is the picture's
 --                     size and ny, nu, nv its planes' lengths; nr is the list's length; w is the view and my, mu, mv its planes' lengths
 --   lentNumberOf z w rects vy vu vv y u v      the same of the lent lists themselves
---   Accepted z w ny nu nv my mu mv             what 0 says, as plain inequalities (`apply-fits`)
+--   ApplyAccepted z w ny nu nv my mu mv             what 0 says, as plain inequalities (`apply-fits`)
 use Prim.Native.Nat.{ℕ, _%_}
 use mathlib.Core.Bool.{Bool, not}
 use mathlib.Core.List.{List, [], _∷_}
@@ -26,6 +26,6 @@ applyNumberOf z w ny nu nv nr my mu mv =
 abbrev pub lentNumberOf : Size → View → List ℕ → List ℕ → List ℕ → List ℕ → List ℕ → List ℕ → List ℕ → ℕ
 lentNumberOf z w rects vy vu vv y u v = applyNumberOf z w (length y) (length u) (length v) (length rects) (length vy) (length vu) (length vv)
 
-pub record Accepted (z : Size) (w : View) (ny nu nv my mu mv : ℕ) : Type 0 where
+pub record ApplyAccepted (z : Size) (w : View) (ny nu nv my mu mv : ℕ) : Type 0 where
   pub planes : PlanesFit z ny nu nv
   pub view : ViewFits w my mu mv

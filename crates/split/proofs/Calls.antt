@@ -16,9 +16,9 @@ use Rattle.layout.specs.declared.Layout.{Layout}
 use Rattle.split.specs.declared.number.PlaneLengths.{PlaneLengths}
 use Rattle.split.specs.declared.number.Views.{Views}
 use Rattle.split.proofs.Exactly.{split-0-exactly}
-use Rattle.split.specs.Split.{Planes, lengthsOf, mainSample, auxSample, tooLarge, viewShort, splitNumberOf, splitAnswerOf, splitBuffersOf, Written, SplitEnds}
-use Rattle.split_views.specs.Fits.{Whole, Room}
-use Rattle.split.specs.Accepted.{Accepted}
+use Rattle.split.specs.Split.{Planes, lengthsOf, mainSample, auxiliarySample, tooLarge, viewShort, splitNumberOf, splitAnswerOf, splitBuffersOf, Written, SplitEnds}
+use Rattle.split_views.specs.Fits.{MacroblocksFit, Room}
+use Rattle.split.specs.Accepted.{SplitAccepted}
 
 -- what 0 says
 module _ (z : Size) (n : PlaneLengths) where
@@ -38,10 +38,10 @@ module _ (z : Size) (n : PlaneLengths) where
       let y = nor y-short u-short .0 (yu .0) in
       record { y-room = ltb-false _ _ (y .0); u-room = ltb-false _ _ (y .1); v-room = ltb-false _ _ (yu .1) }
 
-whole-plane : (z : Size) {n : ℕ} → rowsOf z * strideOf z ≤ n → Whole n (strideOf z) (rowsOf z)
+whole-plane : (z : Size) {n : ℕ} → rowsOf z * strideOf z ≤ n → MacroblocksFit n (strideOf z) (rowsOf z)
 whole-plane z fits = record { fits = fits; wide = omega arith; high = omega arith }
 
-pub accepted : (z : Size) (p m a : PlaneLengths) → splitNumberOf z p m a ≡ 0 → Accepted z p m a
+pub accepted : (z : Size) (p m a : PlaneLengths) → splitNumberOf z p m a ≡ 0 → SplitAccepted z p m a
 accepted z p m a e =
     let f = split-0-exactly z p m a .0 e in
     let fit = planes-fit z (p .y) (p .u) (p .v) (f .0) in
@@ -51,7 +51,7 @@ accepted z p m a e =
       u-whole = whole-plane z (fit .u-fits);
       v-whole = whole-plane z (fit .v-fits);
       main-room = view-room z m (out .0);
-      aux-room = view-room z a (out .1);
+      auxiliary-room = view-room z a (out .1);
       small = f .1 .0;
     }
 
@@ -63,7 +63,7 @@ module _ (t : Layout) (z : Size) (p m a : Planes) {n : ℕ} {r : Views} (is : n 
       record { answer = answered ∙ ap (splitAnswerOf z) is; buffers = rw no refl }
 
   pub done : {m′ a′ : Planes} → n ≡ 0 → r ≡ splitAnswerOf z 0
-      → Written (strideOf z) (rowsOf z) (mainSample (strideOf z) p) m m′ → Written (strideOf z) (rowsOf z) (auxSample t (strideOf z) (p .u) (p .v)) a a′
+      → Written (strideOf z) (rowsOf z) (mainSample (strideOf z) p) m m′ → Written (strideOf z) (rowsOf z) (auxiliarySample t (strideOf z) (p .u) (p .v)) a a′
       → SplitEnds t z p m a r (m′ .y ∷ m′ .u ∷ m′ .v ∷ a′ .y ∷ a′ .u ∷ a′ .v ∷ [])
   unfolding splitBuffersOf
   done none answered w x =

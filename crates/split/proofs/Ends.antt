@@ -23,9 +23,9 @@ use Rattle.layout.specs.declared.Layout.{Layout}
 use Rattle.split.specs.declared.number.PlaneLengths.{PlaneLengths}
 use Rattle.split.specs.declared.number.Views.{Views}
 use Rattle.split.proofs.Exactly.{small-exactly, split-5-plainly, split-0-exactly}
-use Rattle.split.specs.Split.{Planes, lengthsOf, mainSample, auxSample, viewShort, viewAfter, splitNumberOf, splitAnswerOf, splitBuffersOf, SplitEnds}
+use Rattle.split.specs.Split.{Planes, lengthsOf, mainSample, auxiliarySample, viewShort, viewAfter, splitNumberOf, splitAnswerOf, splitBuffersOf, SplitEnds}
 
--- of `split`, and of `split_v1` and `split_v2` where t is V1 or V2
+-- of `split`, in either layout
 pub split-unique : (t : Layout) (z : Size) (p m a : Planes) (r q : Views) (rs qs : List (List ℕ)) → SplitEnds t z p m a r rs → SplitEnds t z p m a q qs → (r ≡ q) × (rs ≡ qs)
 split-unique t z p m a = outcome-unique (λ (i : Planes). splitAnswerOf z (splitNumberOf z (lengthsOf i) (lengthsOf m) (lengthsOf a))) (λ i. splitBuffersOf t z i m a) p
 
@@ -83,4 +83,4 @@ module _ (z : Size) (none : Empty z) where
   unfolding splitBuffersOf
   empty-kept t p m a =
       let n = splitNumberOf z (lengthsOf p) (lengthsOf m) (lengthsOf a) in
-      λ i. view-kept n (mainSample (strideOf z) p) m i ++ view-kept n (auxSample t (strideOf z) (p .u) (p .v)) a i
+      λ i. view-kept n (mainSample (strideOf z) p) m i ++ view-kept n (auxiliarySample t (strideOf z) (p .u) (p .v)) a i

@@ -1,18 +1,18 @@
 -- What a split that answers 0 has.
 --
---   Accepted z p m a     the planes of the picture and of both views, of the lengths p, m and a, are long enough, and the sizes fit a view
+--   SplitAccepted z p m a     the planes of the picture and of both views, of the lengths p, m and a, are long enough, and the sizes fit a view
 use mathlib.Core.Path.{_≡_}
 use mathlib.Core.Bool.{false}
 use Rattle.picture.specs.declared.Size.{Size}
 use Rattle.picture.specs.Sizes.{strideOf, rowsOf}
-use Rattle.split_views.specs.Fits.{Whole, Room}
+use Rattle.split_views.specs.Fits.{MacroblocksFit, Room}
 use Rattle.split.specs.declared.number.PlaneLengths.{PlaneLengths}
 use Rattle.split.specs.Number.{tooLarge}
 
-pub record Accepted (z : Size) (p m a : PlaneLengths) : Type 0 where
-  pub y-whole : Whole (p .y) (strideOf z) (rowsOf z)
-  pub u-whole : Whole (p .u) (strideOf z) (rowsOf z)
-  pub v-whole : Whole (p .v) (strideOf z) (rowsOf z)
+pub record SplitAccepted (z : Size) (p m a : PlaneLengths) : Type 0 where
+  pub y-whole : MacroblocksFit (p .y) (strideOf z) (rowsOf z)
+  pub u-whole : MacroblocksFit (p .u) (strideOf z) (rowsOf z)
+  pub v-whole : MacroblocksFit (p .v) (strideOf z) (rowsOf z)
   pub main-room : Room (m .y) (m .u) (m .v) (strideOf z) (rowsOf z)
-  pub aux-room : Room (a .y) (a .u) (a .v) (strideOf z) (rowsOf z)
+  pub auxiliary-room : Room (a .y) (a .u) (a .v) (strideOf z) (rowsOf z)
   pub small : tooLarge z ≡ false

@@ -1,6 +1,6 @@
 -- Both views of a picture (document 01, "Split writes two views of stride by rows", "Numbers a call may answer" and "Limits"). What a view
--- holds, `mainSample` and `auxSample`, and `Written`, are said in split_views (specs/Views.antt), the number and the answer, `splitNumberOf`
--- and `splitAnswerOf`, in split_number (specs/Number.antt); both are passed on here.
+-- holds, `mainSample` and `auxiliarySample`, and `Written`, are said in split_views (specs/Views.antt), the number and the answer, `splitNumberOf`
+-- and `splitAnswerOf`, in Number.antt; both are passed on here.
 --
 --   lengthsOf p              the lengths of three lent buffers
 --   viewAfter n z s o        what the buffers o of a view that holds s have in them after a split that answers n
@@ -19,8 +19,8 @@ use Rattle.split.specs.declared.number.PlaneLengths.{PlaneLengths}
 use Rattle.split.specs.declared.number.Views.{Views}
 pub use Rattle.split.specs.Number.{splitAnswerOf}
 unfoldable pub use Rattle.split.specs.Number.{tooLarge, viewShort, splitNumberOf}
-pub use Rattle.split_views.specs.Views.{Planes, planes, mainSample, chromaOf, sampleAt, Written}
-unfoldable pub use Rattle.split_views.specs.Views.{auxSample}
+pub use Rattle.split_views.specs.Views.{Planes, planes, mainSample, pickChroma, sampleAt, Written}
+unfoldable pub use Rattle.split_views.specs.Views.{auxiliarySample}
 
 abbrev pub lengthsOf : Planes → PlaneLengths
 lengthsOf p = record { y = length (p .y); u = length (p .u); v = length (p .v) }
@@ -35,7 +35,7 @@ viewAfter n z s o =
 unfoldable pub splitBuffersOf : Layout → Size → Planes → Planes → Planes → List (List ℕ)
 splitBuffersOf t z p m a =
     let n = splitNumberOf z (lengthsOf p) (lengthsOf m) (lengthsOf a) in
-    viewAfter n z (mainSample (strideOf z) p) m ++ viewAfter n z (auxSample t (strideOf z) (p .u) (p .v)) a
+    viewAfter n z (mainSample (strideOf z) p) m ++ viewAfter n z (auxiliarySample t (strideOf z) (p .u) (p .v)) a
 
 abbrev pub SplitEnds : Layout → Size → Planes → Planes → Planes → Views → List (List ℕ) → Type 0
 SplitEnds t z p m a r rs = Outcome (splitAnswerOf z (splitNumberOf z (lengthsOf p) (lengthsOf m) (lengthsOf a))) (splitBuffersOf t z p m a) r rs

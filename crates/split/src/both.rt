@@ -3,8 +3,8 @@
 // Promised: every byte of the planes of both views, and no byte after them. `split` tests the lengths first.
 ghost use lib.ListN.{length};
 ghost use Rattle.picture.specs.Sizes.{strideOf, rowsOf};
-ghost use Rattle.split_views.specs.Views.{planes, mainSample, auxSample, Written};
-ghost use Rattle.split_views.specs.Fits.{Whole, Room};
+ghost use Rattle.split_views.specs.Views.{planes, mainSample, auxiliarySample, Written};
+ghost use Rattle.split_views.specs.Fits.{MacroblocksFit, Room};
 use layout::Layout;
 
 // Both views of a picture, where all that is lent is long enough.
@@ -17,20 +17,29 @@ pub fn both_views(
     main_y: &mut [u8],
     main_u: &mut [u8],
     main_v: &mut [u8],
-    aux_y: &mut [u8],
-    aux_u: &mut [u8],
-    aux_v: &mut [u8],
+    auxiliary_y: &mut [u8],
+    auxiliary_u: &mut [u8],
+    auxiliary_v: &mut [u8],
 )
-    requires { ⌜ Whole (length (now y)) (strideOf size) (rowsOf size) ⌝ }
-    requires { ⌜ Whole (length (now u)) (strideOf size) (rowsOf size) ⌝ }
-    requires { ⌜ Whole (length (now v)) (strideOf size) (rowsOf size) ⌝ }
+    requires { ⌜ MacroblocksFit (length (now y)) (strideOf size) (rowsOf size) ⌝ }
+    requires { ⌜ MacroblocksFit (length (now u)) (strideOf size) (rowsOf size) ⌝ }
+    requires { ⌜ MacroblocksFit (length (now v)) (strideOf size) (rowsOf size) ⌝ }
     requires { ⌜ Room (length (now «main_y»)) (length (now «main_u»)) (length (now «main_v»)) (strideOf size) (rowsOf size) ⌝ }
-    requires { ⌜ Room (length (now «aux_y»)) (length (now «aux_u»)) (length (now «aux_v»)) (strideOf size) (rowsOf size) ⌝ }
+    requires { ⌜ Room (length (now «auxiliary_y»)) (length (now «auxiliary_u»)) (length (now «auxiliary_v»)) (strideOf size) (rowsOf size) ⌝ }
     ensures { λ _. ⌜ Written (strideOf size) (rowsOf size) (mainSample (strideOf size) (planes (now (y .entry)) (now (u .entry)) (now (v .entry)))) (planes (now («main_y» .entry)) (now («main_u» .entry)) (now («main_v» .entry))) (planes (now («main_y» .exit)) (now («main_u» .exit)) (now («main_v» .exit))) ⌝ }
-    ensures { λ _. ⌜ Written (strideOf size) (rowsOf size) (auxSample layout (strideOf size) (now (u .entry)) (now (v .entry))) (planes (now («aux_y» .entry)) (now («aux_u» .entry)) (now («aux_v» .entry))) (planes (now («aux_y» .exit)) (now («aux_u» .exit)) (now («aux_v» .exit))) ⌝ }
+    ensures { λ _. ⌜ Written (strideOf size) (rowsOf size) (auxiliarySample layout (strideOf size) (now (u .entry)) (now (v .entry))) (planes (now («auxiliary_y» .entry)) (now («auxiliary_u» .entry)) (now («auxiliary_v» .entry))) (planes (now («auxiliary_y» .exit)) (now («auxiliary_u» .exit)) (now («auxiliary_v» .exit))) ⌝ }
 {
     let stride = picture::stride(size);
     let rows = picture::rows(size);
     split_views::main_view(y, u, v, stride, rows, main_y, main_u, main_v);
-    split_views::auxiliary::aux_view(layout, u, v, stride, rows, aux_y, aux_u, aux_v);
+    split_views::auxiliary::auxiliary_view(
+        layout,
+        u,
+        v,
+        stride,
+        rows,
+        auxiliary_y,
+        auxiliary_u,
+        auxiliary_v,
+    );
 }

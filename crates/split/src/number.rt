@@ -53,9 +53,9 @@ pub fn split_number(
     size: picture::Size,
     from: PlaneLengths,
     main: PlaneLengths,
-    aux: PlaneLengths,
+    auxiliary: PlaneLengths,
 ) -> u32
-    ensures { λ r. ⌜ r ≡ splitNumberOf size from main aux ⌝ }
+    ensures { λ r. ⌜ r ≡ splitNumberOf size from main auxiliary ⌝ }
 {
     if picture::planes_short(size, from.y, from.u, from.v) {
         return 1;
@@ -66,7 +66,7 @@ pub fn split_number(
     if view_short(size, main) {
         return 6;
     }
-    if view_short(size, aux) {
+    if view_short(size, auxiliary) {
         return 6;
     }
     0

@@ -36,10 +36,6 @@ module _ (plane : List ℕ) (stride row : ℕ) where
   pub row-copied : (out : List ℕ) → 1 * length out ≡ stride → row * stride + stride ≤ length plane → rowOf plane stride row ≡ paint every (sample plane stride row) out
   row-copied out exact fits = paint-is every (sample plane stride row) out (rowOf plane stride row) (row-long fits ∙ omega arith) (λ k h. row-sample k (omega arith))
 
-  -- samples of the row were picked
-  pub row-picked : (out : List ℕ) (at : ℕ → ℕ) → ((k : ℕ) → k < length out → at k < stride) → paint every (λ k. getD (rowOf plane stride row) (at k) 0) out ≡ paint every (λ k. sample plane stride row (at k)) out
-  row-picked out at inside = paint-ext every every _ _ out (λ k h. refl) (λ k h e. row-sample (at k) (inside k h))
-
 -- a part that was lent, painted and came back
 pub part-painted : (xs ys : List ℕ) (a e : ℕ) (u : ℕ → ℕ) → a ≤ e → e ≤ length xs → ys ≡ paint every u (take (e - a) (drop a xs))
     → take a xs ++ (ys ++ drop (e - a) (drop a xs)) ≡ paint (within a e) (λ k. u (k - a)) xs

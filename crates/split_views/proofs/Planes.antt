@@ -13,21 +13,21 @@ use Rattle.layout.specs.declared.Chroma.the-variants.{CU, CV}
 use Rattle.layout.specs.declared.Layout.{Layout}
 use Rattle.layout.specs.declared.Layout.the-variants.{V1, V2}
 use Rattle.split_rows.proofs.Rows.{same-plane}
-use Rattle.split_views.specs.Views.{chromaOf, sampleAt, auxSample, v2ChromaSample}
+use Rattle.split_views.specs.Views.{pickChroma, sampleAt, auxiliarySample, v2ChromaSample}
 use Rattle.split_views.specs.Chroma.{chromaSample}
 
 module _ (stride : ℕ) (u v : List ℕ) (wide : stride % 16 ≡ 0) where
   width : v2WidthOf stride ≡ stride
   width = omega (arith, wide)
 
-  chroma-at : (t : Layout) (k : Chroma) (r c : ℕ) → chromaSample t stride (chromaOf k u v) u v (shift k 2) r c ≡ auxSample t stride u v (partOf k) r c
-  unfolding auxSample chromaSample v2ChromaSample
+  chroma-at : (t : Layout) (k : Chroma) (r c : ℕ) → chromaSample t stride (pickChroma k u v) u v (shift k 2) r c ≡ auxiliarySample t stride u v (partOf k) r c
+  unfolding auxiliarySample chromaSample v2ChromaSample
   chroma-at V1 CU r c = refl
   chroma-at V1 CV r c = refl
   chroma-at V2 CU r c =
-      ap (λ (q : ℕ). sample (chromaOf (halfOf (stride / 4) c) u v) stride (2 * r + 1) q) (add-zero (4 * into (stride / 4) c))
+      ap (λ (q : ℕ). sample (pickChroma (halfOf (stride / 4) c) u v) stride (2 * r + 1) q) (add-zero (4 * into (stride / 4) c))
       ∙ sym (ap (λ (w : ℕ). sampleAt stride u v (fromV2 w PU r c)) width)
   chroma-at V2 CV r c = sym (ap (λ (w : ℕ). sampleAt stride u v (fromV2 w PV r c)) width)
 
-  pub chroma-plane : (t : Layout) (k : Chroma) (w h : ℕ) (xs : List ℕ) → painted w h whole (chromaSample t stride (chromaOf k u v) u v (shift k 2)) xs ≡ painted w h whole (auxSample t stride u v (partOf k)) xs
+  pub chroma-plane : (t : Layout) (k : Chroma) (w h : ℕ) (xs : List ℕ) → painted w h whole (chromaSample t stride (pickChroma k u v) u v (shift k 2)) xs ≡ painted w h whole (auxiliarySample t stride u v (partOf k)) xs
   chroma-plane t k w h xs = same-plane w h _ _ xs (chroma-at t k)

@@ -13,7 +13,7 @@ use Rattle.layout.specs.declared.Chroma.{Chroma}
 use Rattle.layout.specs.declared.Layout.the-variants.{V1, V2}
 use Rattle.layout.proofs.Halves.{half-at}
 use Rattle.layout.proofs.Spots.{v2-luma-place}
-use Rattle.split_views.specs.Views.{chromaOf, sampleAt, auxSample, v2ChromaSample}
+use Rattle.split_views.specs.Views.{pickChroma, sampleAt, auxiliarySample, v2ChromaSample}
 use Rattle.split_views.specs.Fits.{BlockFits}
 
 -- a row of a macroblock that fits, fits
@@ -22,23 +22,23 @@ row-fits m stride row fits = le-trans (row-in stride (row - row % 16 + 16) row (
 
 module _ (stride : ℕ) (u v : List ℕ) where
   -- V1: the rows of a macroblock, the first 8 and the others
-  pub v1-u-row : (row c : ℕ) → row % 16 < 8 → sample u stride (row - row % 16 + 2 * (row % 16) + 1) c ≡ auxSample V1 stride u v PY row c
-  unfolding auxSample
+  pub v1-u-row : (row c : ℕ) → row % 16 < 8 → sample u stride (row - row % 16 + 2 * (row % 16) + 1) c ≡ auxiliarySample V1 stride u v PY row c
+  unfolding auxiliarySample
   v1-u-row row c h = rw (lt-ltb (row % 16) 8 h) (ap (λ (r : ℕ). sample u stride r c) (omega arith))
 
-  pub v1-v-row : (row c : ℕ) → 8 ≤ row % 16 → sample v stride (row - row % 16 + 2 * (row % 16 - 8) + 1) c ≡ auxSample V1 stride u v PY row c
-  unfolding auxSample
+  pub v1-v-row : (row c : ℕ) → 8 ≤ row % 16 → sample v stride (row - row % 16 + 2 * (row % 16 - 8) + 1) c ≡ auxiliarySample V1 stride u v PY row c
+  unfolding auxiliarySample
   v1-v-row row c h = rw (le-ltb (row % 16) 8 h) (ap (λ (r : ℕ). sample v stride r c) (omega arith))
 
   -- V2: j places into the half of k
-  pub v2-luma-half : stride % 16 ≡ 0 → (k : Chroma) (r j : ℕ) → j < stride / 2 → sample (chromaOf k u v) stride r (2 * j + 1) ≡ auxSample V2 stride u v PY r (shift k (stride / 2) + j)
-  unfolding auxSample
+  pub v2-luma-half : stride % 16 ≡ 0 → (k : Chroma) (r j : ℕ) → j < stride / 2 → sample (pickChroma k u v) stride r (2 * j + 1) ≡ auxiliarySample V2 stride u v PY r (shift k (stride / 2) + j)
+  unfolding auxiliarySample
   v2-luma-half wide k r j h =
       let width : v2WidthOf stride ≡ stride = omega (arith, wide) in
       sym (ap (λ (w : ℕ). sampleAt stride u v (fromV2 w PY r (shift k (stride / 2) + j))) width ∙ ap (sampleAt stride u v) (v2-luma-place stride k r j h))
 
-  pub v2-chroma-half : (k : Chroma) (first r j : ℕ) → j < stride / 4 → sample (chromaOf k u v) stride r (4 * j + first) ≡ v2ChromaSample stride u v first r (shift k (stride / 4) + j)
+  pub v2-chroma-half : (k : Chroma) (first r j : ℕ) → j < stride / 4 → sample (pickChroma k u v) stride r (4 * j + first) ≡ v2ChromaSample stride u v first r (shift k (stride / 4) + j)
   unfolding v2ChromaSample
   v2-chroma-half k first r j h =
       let half = half-at k (stride / 4) j refl h in
-      sym (λ i. sample (chromaOf (half .0 i) u v) stride r (4 * half .1 i + first))
+      sym (λ i. sample (pickChroma (half .0 i) u v) stride r (4 * half .1 i + first))

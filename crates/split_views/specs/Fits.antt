@@ -1,7 +1,7 @@
 -- What the writers ask of their callers, over lengths.
 --
 --   BlockFits m stride row         the 16 rows of the macroblocks that row `row` is in are within a plane of m bytes
---   Whole m stride rows            a plane of m bytes has all its rows, and its sides are whole macroblocks
+--   MacroblocksFit m stride rows            a plane of m bytes has all its rows, and its sides are whole macroblocks
 --   Room ny nu nv stride rows      a view's three planes have room for what is written
 use Prim.Native.Nat.{ℕ, _+_, _-_, _*_, _/_, _%_, _≤_}
 use mathlib.Core.Path.{_≡_}
@@ -9,7 +9,7 @@ use mathlib.Core.Path.{_≡_}
 abbrev pub BlockFits : ℕ → ℕ → ℕ → Type 0
 BlockFits m stride row = (row - row % 16 + 16) * stride ≤ m
 
-pub record Whole (m stride rows : ℕ) : Type 0 where
+pub record MacroblocksFit (m stride rows : ℕ) : Type 0 where
   pub fits : rows * stride ≤ m
   pub wide : stride % 16 ≡ 0
   pub high : rows % 16 ≡ 0

@@ -2,12 +2,12 @@
 --
 --   Planes, planes y u v     three lent buffers: those of the picture, of the main view, of the auxiliary view
 --   mainSample stride p q r c    the main view's plane q, at row r and column c: "Main: the luma plane and the even-even chroma"
---   chromaOf k u v           the picture's chroma plane k
+--   pickChroma k u v           the picture's chroma plane k
 --   sampleAt stride u v l    the picture's chroma sample at the place l
---   auxSample t stride u v q r c     the auxiliary view's plane q, at row r and column c: "the same places as above, read backwards",
+--   auxiliarySample t stride u v q r c     the auxiliary view's plane q, at row r and column c: "the same places as above, read backwards",
 --                            so it is the picture's sample at the place that layout's map gives for that spot. A view of a split is as
 --                            wide as the stride, so the map is that of a view of this width
---   v2ChromaSample stride u v first r c    a chroma row of V2, as it is written; split_aux's law chroma-plane says which planes it is
+--   v2ChromaSample stride u v first r c    a chroma row of V2, as it is written; split_views::auxiliary's law chroma-plane says which planes it is
 --   Written stride rows s old new    a view of stride by rows that holds s was written over three buffers: every byte of its planes, and
 --                            no other
 use Prim.Native.Nat.{ℕ, _+_, _*_, _/_}
@@ -33,19 +33,19 @@ mainSample stride p PY r c = sample (p .y) stride r c
 mainSample stride p PU r c = sample (p .u) stride (2 * r) (2 * c)
 mainSample stride p PV r c = sample (p .v) stride (2 * r) (2 * c)
 
-abbrev pub chromaOf : Chroma → List ℕ → List ℕ → List ℕ
-chromaOf CU u v = u
-chromaOf CV u v = v
+abbrev pub pickChroma : Chroma → List ℕ → List ℕ → List ℕ
+pickChroma CU u v = u
+pickChroma CV u v = v
 
 abbrev pub sampleAt : ℕ → List ℕ → List ℕ → Place → ℕ
-sampleAt stride u v l = sample (chromaOf (l .plane) u v) stride (l .row) (l .col)
+sampleAt stride u v l = sample (pickChroma (l .plane) u v) stride (l .row) (l .col)
 
-unfoldable pub auxSample : Layout → ℕ → List ℕ → List ℕ → Part → ℕ → ℕ → ℕ
-auxSample t stride u v q r c = sampleAt stride u v (maps t stride .place (spot q r c))
+unfoldable pub auxiliarySample : Layout → ℕ → List ℕ → List ℕ → Part → ℕ → ℕ → ℕ
+auxiliarySample t stride u v q r c = sampleAt stride u v (maps t stride .place (spot q r c))
 
 -- every fourth column of row r of the picture, from `first` on, U's in the first half and V's in the second
 unfoldable pub v2ChromaSample : ℕ → List ℕ → List ℕ → ℕ → ℕ → ℕ → ℕ
-v2ChromaSample stride u v first r c = sample (chromaOf (halfOf (stride / 4) c) u v) stride r (4 * into (stride / 4) c + first)
+v2ChromaSample stride u v first r c = sample (pickChroma (halfOf (stride / 4) c) u v) stride r (4 * into (stride / 4) c + first)
 
 pub record Written (stride rows : ℕ) (s : Part → ℕ → ℕ → ℕ) (old new : Planes) : Type 0 where
   pub y-is : new .y ≡ painted stride rows whole (s PY) (old .y)

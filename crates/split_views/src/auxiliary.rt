@@ -1,23 +1,23 @@
 // The planes of the auxiliary view of a split, in either layout.
 //
 // Each writer promises every byte of the plane that it is lent, and no byte after it: what the auxiliary view holds is said by layout's
-// map alone (split_views, specs/Views.antt). One row at a time, by the writers of split_aux_rows and split_rows.
+// map alone (specs/Views.antt). One row at a time, by the writers of `auxiliary_rows` and of split_rows.
 ghost use mathlib.Core.Path.{_≡_};
 ghost use Prim.Native.Nat.{_+_, _*_, _/_, _<_, _≤_};
 ghost use lib.ListN.{length};
 ghost use Rattle.lent.specs.Paint.{painted, whole};
 ghost use Rattle.layout.specs.Maps.{PY};
-ghost use Rattle.split_views.specs.Views.{planes, auxSample, v2ChromaSample, Written};
-ghost use Rattle.split_views.specs.Fits.{Whole, Room};
+ghost use Rattle.split_views.specs.Views.{planes, auxiliarySample, v2ChromaSample, Written};
+ghost use Rattle.split_views.specs.Fits.{MacroblocksFit, Room};
 ghost use Rattle.split_views.specs.Chroma.{chromaSample};
 use layout::Layout;
 
 // The luma plane.
 fn luma(layout: Layout, out: &mut [u8], u: &[u8], v: &[u8], stride: usize, rows: usize)
     requires { ⌜ rows * stride ≤ length (now out) ⌝ }
-    requires { ⌜ Whole (length (now u)) stride rows ⌝ }
-    requires { ⌜ Whole (length (now v)) stride rows ⌝ }
-    ensures { λ _. ⌜ now (out .exit) ≡ painted stride rows whole (auxSample layout stride (now (u .entry)) (now (v .entry)) PY) (now (out .entry)) ⌝ }
+    requires { ⌜ MacroblocksFit (length (now u)) stride rows ⌝ }
+    requires { ⌜ MacroblocksFit (length (now v)) stride rows ⌝ }
+    ensures { λ _. ⌜ now (out .exit) ≡ painted stride rows whole (auxiliarySample layout stride (now (u .entry)) (now (v .entry)) PY) (now (out .entry)) ⌝ }
 {
     let mut row = 0;
     while row < rows {
@@ -30,8 +30,8 @@ fn luma(layout: Layout, out: &mut [u8], u: &[u8], v: &[u8], stride: usize, rows:
 // V2's U plane, or its V plane: odd rows of the picture, from column 0 or 2 on.
 fn v2_chroma(out: &mut [u8], u: &[u8], v: &[u8], stride: usize, rows: usize, first: usize)
     requires { ⌜ rows / 2 * (stride / 2) ≤ length (now out) ⌝ }
-    requires { ⌜ Whole (length (now u)) stride rows ⌝ }
-    requires { ⌜ Whole (length (now v)) stride rows ⌝ }
+    requires { ⌜ MacroblocksFit (length (now u)) stride rows ⌝ }
+    requires { ⌜ MacroblocksFit (length (now v)) stride rows ⌝ }
     requires { ⌜ first < 4 ⌝ }
     ensures { λ _. ⌜ now (out .exit) ≡ painted (stride / 2) (rows / 2) whole (λ r. v2ChromaSample stride (now (u .entry)) (now (v .entry)) first (2 * r + 1)) (now (out .entry)) ⌝ }
 {
@@ -64,9 +64,9 @@ fn chroma(
     first: usize,
 )
     requires { ⌜ rows / 2 * (stride / 2) ≤ length (now out) ⌝ }
-    requires { ⌜ Whole (length (now own)) stride rows ⌝ }
-    requires { ⌜ Whole (length (now u)) stride rows ⌝ }
-    requires { ⌜ Whole (length (now v)) stride rows ⌝ }
+    requires { ⌜ MacroblocksFit (length (now own)) stride rows ⌝ }
+    requires { ⌜ MacroblocksFit (length (now u)) stride rows ⌝ }
+    requires { ⌜ MacroblocksFit (length (now v)) stride rows ⌝ }
     requires { ⌜ first < 4 ⌝ }
     ensures { λ _. ⌜ now (out .exit) ≡ painted (stride / 2) (rows / 2) whole (chromaSample layout stride (now (own .entry)) (now (u .entry)) (now (v .entry)) first) (now (out .entry)) ⌝ }
 {
@@ -77,22 +77,22 @@ fn chroma(
 }
 
 // The auxiliary view.
-pub fn aux_view(
+pub fn auxiliary_view(
     layout: Layout,
     u: &[u8],
     v: &[u8],
     stride: usize,
     rows: usize,
-    aux_y: &mut [u8],
-    aux_u: &mut [u8],
-    aux_v: &mut [u8],
+    auxiliary_y: &mut [u8],
+    auxiliary_u: &mut [u8],
+    auxiliary_v: &mut [u8],
 )
-    requires { ⌜ Whole (length (now u)) stride rows ⌝ }
-    requires { ⌜ Whole (length (now v)) stride rows ⌝ }
-    requires { ⌜ Room (length (now «aux_y»)) (length (now «aux_u»)) (length (now «aux_v»)) stride rows ⌝ }
-    ensures { λ _. ⌜ Written stride rows (auxSample layout stride (now (u .entry)) (now (v .entry))) (planes (now («aux_y» .entry)) (now («aux_u» .entry)) (now («aux_v» .entry))) (planes (now («aux_y» .exit)) (now («aux_u» .exit)) (now («aux_v» .exit))) ⌝ }
+    requires { ⌜ MacroblocksFit (length (now u)) stride rows ⌝ }
+    requires { ⌜ MacroblocksFit (length (now v)) stride rows ⌝ }
+    requires { ⌜ Room (length (now «auxiliary_y»)) (length (now «auxiliary_u»)) (length (now «auxiliary_v»)) stride rows ⌝ }
+    ensures { λ _. ⌜ Written stride rows (auxiliarySample layout stride (now (u .entry)) (now (v .entry))) (planes (now («auxiliary_y» .entry)) (now («auxiliary_u» .entry)) (now («auxiliary_v» .entry))) (planes (now («auxiliary_y» .exit)) (now («auxiliary_u» .exit)) (now («auxiliary_v» .exit))) ⌝ }
 {
-    luma(layout, aux_y, u, v, stride, rows);
-    chroma(layout, aux_u, u, u, v, stride, rows, 0);
-    chroma(layout, aux_v, v, u, v, stride, rows, 2);
+    luma(layout, auxiliary_y, u, v, stride, rows);
+    chroma(layout, auxiliary_u, u, u, v, stride, rows, 0);
+    chroma(layout, auxiliary_v, v, u, v, stride, rows, 2);
 }

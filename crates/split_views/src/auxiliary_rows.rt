@@ -7,7 +7,7 @@ ghost use lib.ListN.{length};
 ghost use Rattle.lent.specs.Paint.{paint, every};
 ghost use Rattle.layout.specs.Maps.{PY};
 ghost use Rattle.layout.specs.declared.Layout.the-variants.{V1, V2};
-ghost use Rattle.split_views.specs.Views.{auxSample, v2ChromaSample};
+ghost use Rattle.split_views.specs.Views.{auxiliarySample, v2ChromaSample};
 ghost use Rattle.split_views.specs.Fits.{BlockFits};
 use layout::Layout;
 
@@ -16,7 +16,7 @@ fn v1_luma_row(out: &mut [u8], u: &[u8], v: &[u8], stride: usize, row: usize)
     requires { ⌜ length (now out) ≡ stride ⌝ }
     requires { ⌜ BlockFits (length (now u)) stride row ⌝ }
     requires { ⌜ BlockFits (length (now v)) stride row ⌝ }
-    ensures { λ _. ⌜ now (out .exit) ≡ paint every (auxSample V1 stride (now (u .entry)) (now (v .entry)) PY row) (now (out .entry)) ⌝ }
+    ensures { λ _. ⌜ now (out .exit) ≡ paint every (auxiliarySample V1 stride (now (u .entry)) (now (v .entry)) PY row) (now (out .entry)) ⌝ }
 {
     let within = row % 16;
     let block = row - within;
@@ -33,7 +33,7 @@ fn v2_luma_row(out: &mut [u8], u: &[u8], v: &[u8], stride: usize, row: usize)
     requires { ⌜ stride % 16 ≡ 0 ⌝ }
     requires { ⌜ row * stride + stride ≤ length (now u) ⌝ }
     requires { ⌜ row * stride + stride ≤ length (now v) ⌝ }
-    ensures { λ _. ⌜ now (out .exit) ≡ paint every (auxSample V2 stride (now (u .entry)) (now (v .entry)) PY row) (now (out .entry)) ⌝ }
+    ensures { λ _. ⌜ now (out .exit) ≡ paint every (auxiliarySample V2 stride (now (u .entry)) (now (v .entry)) PY row) (now (out .entry)) ⌝ }
 {
     let half = stride / 2;
     split_rows::seconds_row(&mut out[0..half], u, stride, row, 1);
@@ -46,7 +46,7 @@ pub fn luma_row(layout: Layout, out: &mut [u8], u: &[u8], v: &[u8], stride: usiz
     requires { ⌜ stride % 16 ≡ 0 ⌝ }
     requires { ⌜ BlockFits (length (now u)) stride row ⌝ }
     requires { ⌜ BlockFits (length (now v)) stride row ⌝ }
-    ensures { λ _. ⌜ now (out .exit) ≡ paint every (auxSample layout stride (now (u .entry)) (now (v .entry)) PY row) (now (out .entry)) ⌝ }
+    ensures { λ _. ⌜ now (out .exit) ≡ paint every (auxiliarySample layout stride (now (u .entry)) (now (v .entry)) PY row) (now (out .entry)) ⌝ }
 {
     match layout {
         Layout::V1 => v1_luma_row(out, u, v, stride, row),

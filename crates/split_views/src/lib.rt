@@ -1,4 +1,5 @@
-// What both views of a split hold (specs/Views.antt), and the planes of the main view; those of the auxiliary view are written by split_aux.
+// What both views of a split hold (specs/Views.antt), and the planes of the main view; those of the auxiliary
+// view are written in `auxiliary`.
 //
 // Each writer promises every byte of the plane that it is lent, and no byte after it. One row at a time, by the writers of split_rows.
 pub mod auxiliary; // the auxiliary view
@@ -10,7 +11,7 @@ ghost use lib.ListN.{length};
 ghost use Rattle.lent.specs.Paint.{painted, whole};
 ghost use Rattle.lent.specs.Samples.{sample};
 ghost use Rattle.split_views.specs.Views.{planes, mainSample, Written};
-ghost use Rattle.split_views.specs.Fits.{Whole, Room};
+ghost use Rattle.split_views.specs.Fits.{MacroblocksFit, Room};
 
 // The luma plane.
 fn main_luma(out: &mut [u8], plane: &[u8], stride: usize, rows: usize)
@@ -29,7 +30,7 @@ fn main_luma(out: &mut [u8], plane: &[u8], stride: usize, rows: usize)
 // Of the plane's even rows every second sample, from column `first` on: the main view's chroma, and V1's.
 pub fn half_plane(out: &mut [u8], plane: &[u8], stride: usize, rows: usize, first: usize)
     requires { ⌜ rows / 2 * (stride / 2) ≤ length (now out) ⌝ }
-    requires { ⌜ Whole (length (now plane)) stride rows ⌝ }
+    requires { ⌜ MacroblocksFit (length (now plane)) stride rows ⌝ }
     requires { ⌜ first < 2 ⌝ }
     ensures { λ _. ⌜ now (out .exit) ≡ painted (stride / 2) (rows / 2) whole (λ r c. sample (now (plane .entry)) stride (2 * r) (2 * c + first)) (now (out .entry)) ⌝ }
 {
@@ -54,9 +55,9 @@ pub fn main_view(
     main_u: &mut [u8],
     main_v: &mut [u8],
 )
-    requires { ⌜ Whole (length (now y)) stride rows ⌝ }
-    requires { ⌜ Whole (length (now u)) stride rows ⌝ }
-    requires { ⌜ Whole (length (now v)) stride rows ⌝ }
+    requires { ⌜ MacroblocksFit (length (now y)) stride rows ⌝ }
+    requires { ⌜ MacroblocksFit (length (now u)) stride rows ⌝ }
+    requires { ⌜ MacroblocksFit (length (now v)) stride rows ⌝ }
     requires { ⌜ Room (length (now «main_y»)) (length (now «main_u»)) (length (now «main_v»)) stride rows ⌝ }
     ensures { λ _. ⌜ Written stride rows (mainSample stride (planes (now (y .entry)) (now (u .entry)) (now (v .entry)))) (planes (now («main_y» .entry)) (now («main_u» .entry)) (now («main_v» .entry))) (planes (now («main_y» .exit)) (now («main_u» .exit)) (now («main_v» .exit))) ⌝ }
 {

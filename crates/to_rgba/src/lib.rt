@@ -2,14 +2,14 @@
 //
 // Each promises its number, its count and every byte of the output, for every input (specs/Picture.antt, specs/View.antt); neither asks
 // anything of its caller. What holds of rows of pixels is said once, over the rule that makes a pixel (specs/Pictured.antt); the rule
-// and the writers of one row are in convert_rows.
+// and the writers of one row are in to_rgba_rows.
 ghost use mathlib.Core.Path.{_≡_};
 ghost use mathlib.Core.List.{[], _∷_};
 ghost use lib.ListN.{length};
 ghost use Rattle.colour.specs.Colour.{reverseOf};
 ghost use Rattle.lent.specs.Outcome.{Outcome, answerOf, lentAfter};
 ghost use Rattle.to_rgba_rows.specs.Rules.{pixelAt, viewPixelAt};
-ghost use Rattle.to_rgba_rows.specs.Fits.{RowsFit};
+ghost use Rattle.to_rgba_rows.specs.Fits.{RectFits};
 ghost use Rattle.to_rgba.specs.Pictured.{pictured, shifted};
 ghost use Rattle.to_rgba.specs.Picture.{clippedOf, toRgbaCountOf, toRgbaNumberOf, toRgbaOf};
 ghost use Rattle.to_rgba.specs.View.{viewToRgbaCountOf, viewToRgbaNumberOf, viewToRgbaOf};
@@ -36,7 +36,7 @@ fn put_rows(
     n: usize,
     h: usize,
 )
-    requires { ⌜ RowsFit (length (now out)) (length (now y)) (length (now u)) (length (now v)) stride rows left top n h ⌝ }
+    requires { ⌜ RectFits (length (now out)) (length (now y)) (length (now u)) (length (now v)) stride rows left top n h ⌝ }
     ensures { λ _. ⌜ now (out .exit) ≡ pictured n h (shifted top left (pixelAt stride (now (y .entry)) (now (u .entry)) (now (v .entry)))) (now (out .entry)) ⌝ }
 {
     let wide = 4 * n;
@@ -140,7 +140,16 @@ fn view_rows(
     let mut r: usize = 0;
     while r < h {
         let start = r * wide;
-        to_rgba_rows::view_rows::view_row(&mut out[start..start + wide], y, u, v, luma, chroma, r, n);
+        to_rgba_rows::view_rows::view_row(
+            &mut out[start..start + wide],
+            y,
+            u,
+            v,
+            luma,
+            chroma,
+            r,
+            n,
+        );
         r += 1;
     }
 }

@@ -1,5 +1,5 @@
 // One pixel of a row: as its samples stand, or with its chroma filtered. The rules that make a row of them (specs/Rules.antt) are kept by
-// convert_picture_rows and convert_view_rows.
+// `picture_rows` and `view_rows`.
 //
 // Each call promises the pixel by the rule, for every index that is in range.
 pub mod picture_rows; // a row of picture to RGBA

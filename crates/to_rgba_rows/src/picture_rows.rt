@@ -1,6 +1,6 @@
 // One row of pixels of a picture, from any column on.
 //
-// Each writer promises every byte of the row that it is lent, by the rule that makes a pixel (convert_rows, specs/Rules.antt).
+// Each writer promises every byte of the row that it is lent, by the rule that makes a pixel (specs/Rules.antt).
 // Pixels go in pairs of an even and an odd column, since a test or a half in each pixel keeps the compiler from vector code.
 ghost use mathlib.Core.Path.{_≡_};
 ghost use Prim.Native.Nat.{_*_, _%_, _<_};
@@ -8,7 +8,7 @@ ghost use lib.ListN.{length};
 ghost use Rattle.lent.specs.Paint.{paint, every};
 ghost use Rattle.lent.specs.Pixels.{bytes, done};
 ghost use Rattle.to_rgba_rows.specs.Rules.{pixelAt, rowFrom};
-ghost use Rattle.to_rgba_rows.specs.Fits.{RowFits, RowsFit};
+ghost use Rattle.to_rgba_rows.specs.Fits.{RowFits, RectFits};
 
 // An odd row: no pixel is filtered. What is said of a row holds where it is odd; in any other no index is out of range.
 fn odd_row(
@@ -103,7 +103,7 @@ pub fn put_row(
     left: usize,
     n: usize,
 )
-    requires { ⌜ RowsFit (length (now out)) (length (now y)) (length (now u)) (length (now v)) stride rows left row n 1 ⌝ }
+    requires { ⌜ RectFits (length (now out)) (length (now y)) (length (now u)) (length (now v)) stride rows left row n 1 ⌝ }
     requires { ⌜ length (now out) ≡ 4 * n ⌝ }
     ensures { λ _. ⌜ now (out .exit) ≡ paint every (bytes (rowFrom left (pixelAt stride (now (y .entry)) (now (u .entry)) (now (v .entry)) row))) (now (out .entry)) ⌝ }
 {

@@ -1,6 +1,6 @@
 // One row of pixels of a view.
 //
-// The writer promises every byte of the row that it is lent, by the rule that makes a pixel (convert_rows, specs/Rules.antt).
+// The writer promises every byte of the row that it is lent, by the rule that makes a pixel (specs/Rules.antt).
 // Pixels go in pairs that share their chroma, since a half in each pixel keeps the compiler from vector code.
 ghost use mathlib.Core.Path.{_≡_};
 ghost use lib.ListN.{length};
@@ -38,10 +38,6 @@ pub fn view_row(
     }
     let end = 2 * pairs;
     if end < n {
-        lent::put_pixel(
-            out,
-            end,
-            crate::plain(y, u, v, at + end, half + pairs),
-        );
+        lent::put_pixel(out, end, crate::plain(y, u, v, at + end, half + pairs));
     }
 }

@@ -40,9 +40,6 @@ part-next xs ys l a k e f =
     ∙ ap (λ (r : List ℕ). xs ++ (ys ++ r)) (drop-drop k (length xs) l ∙ ap (λ (n : ℕ). drop n l) long)
     ∙ sym (append-assoc xs ys (drop (length (xs ++ ys)) l))
 
-pub nothing-yet : (l : List ℕ) → l ≡ so-far [] l
-nothing-yet l = refl
-
 -- all of it
 pub all-written : (xs l : List ℕ) → length xs ≡ length l → so-far xs l ≡ xs
 all-written xs l e = ap (λ (r : List ℕ). xs ++ r) (ap (λ (n : ℕ). drop n l) e ∙ drop-length l) ∙ append-nil xs

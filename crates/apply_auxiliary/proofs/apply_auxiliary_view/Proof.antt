@@ -4,9 +4,9 @@ use borrow.Author.Needs.{needs}
 use mathlib.Core.Path.{_≡_, sym, _∙_}
 use lib.ListN.{length}
 use denote.Ref.{now}
-use Rattle.rects.specs.Number.{Accepted, lentNumberOf}
+use Rattle.rects.specs.Number.{ApplyAccepted, lentNumberOf}
 use Rattle.rects.proofs.Number.{apply-fits}
-use Rattle.apply_auxiliary.proofs.Ends.{aux-refused, aux-done}
+use Rattle.apply_auxiliary.proofs.Ends.{auxiliary-refused, auxiliary-done}
 use Rattle.apply_auxiliary.proofs.apply_auxiliary_view.Statement.{statement}
 use Rattle.apply_auxiliary.proofs.apply_auxiliary_view.Tie as tie
 
@@ -21,7 +21,7 @@ zero c = sym (c .before .apply-number .ensures) ∙ c .if1 .left
 
 has : (c : tie.Else1)
     → let a = entry (c .before) .args in
-    Accepted (a .size) (a .w) (length (now (a .y))) (length (now (a .u))) (length (now (a .v))) (length (now (a .vy))) (length (now (a .vu))) (length (now (a .vv)))
+    ApplyAccepted (a .size) (a .w) (length (now (a .y))) (length (now (a .u))) (length (now (a .v))) (length (now (a .vy))) (length (now (a .vu))) (length (now (a .vv)))
 has c = apply-fits _ _ _ _ _ _ _ _ _ (zero c)
 
 apply-number-requires : tie.Need-apply-number-requires
@@ -30,13 +30,13 @@ apply-number-requires c κs = search needs
 returns : tie.Need-returns
 returns c =
     let a = entry (c .before) .args in
-    aux-refused (a .layout) (a .size) (a .w) (now (a .rects)) (now (a .vy)) (now (a .vu)) (now (a .vv)) (now (a .y)) (now (a .u)) (now (a .v)) (c .before .apply-number .ensures) (c .if1 .taken)
+    auxiliary-refused (a .layout) (a .size) (a .w) (now (a .rects)) (now (a .vy)) (now (a .vu)) (now (a .vv)) (now (a .y)) (now (a .u)) (now (a .v)) (c .before .apply-number .ensures) (c .if1 .taken)
 
-aux-rects-requires : tie.Need-aux-rects-requires
-aux-rects-requires c κs = let f = has (c .before) in (f .planes .u-fits, f .view)
+auxiliary-rects-requires : tie.Need-auxiliary-rects-requires
+auxiliary-rects-requires c κs = let f = has (c .before) in (f .planes .u-fits, f .view)
 
-aux-rects-requires-2 : tie.Need-aux-rects-requires-2
-aux-rects-requires-2 c κs = let f = has (c .before .before .before .before .before) in (f .planes .v-fits, f .view)
+auxiliary-rects-requires-2 : tie.Need-auxiliary-rects-requires-2
+auxiliary-rects-requires-2 c κs = let f = has (c .before .before .before .before .before) in (f .planes .v-fits, f .view)
 
 same-length : tie.Need-same-length
 same-length c = search needs
@@ -50,9 +50,9 @@ returns-2 c =
     let u = v .before .before .before .before in
     let e = u .before .before in
     let a = entry (e .before) .args in
-    aux-done (a .layout) (a .size) (a .w) (now (a .rects)) (now (a .vy)) (now (a .vu)) (now (a .vv)) (now (a .y)) (now (a .u)) (now (a .v)) (zero e) (u .aux-rects .ensures) (v .aux-rects2 .ensures)
+    auxiliary-done (a .layout) (a .size) (a .w) (now (a .rects)) (now (a .vy)) (now (a .vu)) (now (a .vv)) (now (a .y)) (now (a .u)) (now (a .v)) (zero e) (u .auxiliary-rects .ensures) (v .auxiliary-rects2 .ensures)
 
 pub apply-auxiliary-view-spec : {M : Type 1} → statement M
 apply-auxiliary-view-spec =
     tie.close
-    (tie.spec apply-number-requires returns aux-rects-requires aux-rects-requires-2 same-length same-length-2 returns-2)
+    (tie.spec apply-number-requires returns auxiliary-rects-requires auxiliary-rects-requires-2 same-length same-length-2 returns-2)

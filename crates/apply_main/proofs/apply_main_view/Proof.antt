@@ -4,7 +4,7 @@ use borrow.Author.Needs.{needs}
 use mathlib.Core.Path.{_≡_, sym, _∙_}
 use lib.ListN.{length}
 use denote.Ref.{now}
-use Rattle.rects.specs.Number.{Accepted, lentNumberOf}
+use Rattle.rects.specs.Number.{ApplyAccepted, lentNumberOf}
 use Rattle.rects.proofs.Number.{apply-fits}
 use Rattle.apply_main.proofs.Main.{main-refused, main-done}
 use Rattle.apply_main.proofs.apply_main_view.Statement.{statement}
@@ -21,7 +21,7 @@ zero c = sym (c .before .apply-number .ensures) ∙ c .if1 .left
 
 has : (c : tie.Else1)
     → let a = start (c .before) .args in
-    Accepted (a .size) (a .w) (length (now (a .y))) (length (now (a .u))) (length (now (a .v))) (length (now (a .vy))) (length (now (a .vu))) (length (now (a .vv)))
+    ApplyAccepted (a .size) (a .w) (length (now (a .y))) (length (now (a .u))) (length (now (a .v))) (length (now (a .vy))) (length (now (a .vu))) (length (now (a .vv)))
 has c = apply-fits _ _ _ _ _ _ _ _ _ (zero c)
 
 apply-number-requires : tie.Need-apply-number-requires

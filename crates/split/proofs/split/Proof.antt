@@ -4,7 +4,7 @@
 use borrow.Author.Needs.{needs}
 use mathlib.Core.Path.{_≡_, sym, _∙_}
 use Rattle.split.specs.Split.{Planes, planes, lengthsOf, splitNumberOf}
-use Rattle.split.specs.Accepted.{Accepted}
+use Rattle.split.specs.Accepted.{SplitAccepted}
 use Rattle.split.proofs.Calls.{accepted, refused, done}
 use Rattle.split.proofs.split.Statement.{statement}
 use Rattle.split.proofs.split.Tie as tie
@@ -18,10 +18,10 @@ from c = let a = start c .args in planes (a .y .now) (a .u .now) (a .v .now)
 abbrev main : tie.After-split-number → Planes
 main c = let a = start c .args in planes (a .main-y .now) (a .main-u .now) (a .main-v .now)
 
-abbrev aux : tie.After-split-number → Planes
-aux c = let a = start c .args in planes (a .aux-y .now) (a .aux-u .now) (a .aux-v .now)
+abbrev auxiliary : tie.After-split-number → Planes
+auxiliary c = let a = start c .args in planes (a .auxiliary-y .now) (a .auxiliary-u .now) (a .auxiliary-v .now)
 
-fits : (c : tie.Else1) → let k = c .before in Accepted (start k .args .size) (lengthsOf (from k)) (lengthsOf (main k)) (lengthsOf (aux k))
+fits : (c : tie.Else1) → let k = c .before in SplitAccepted (start k .args .size) (lengthsOf (from k)) (lengthsOf (main k)) (lengthsOf (auxiliary k))
 fits c = accepted _ _ _ _ (sym (c .before .split-number .ensures) ∙ c .if1 .left)
 
 split-number-requires : tie.Need-split-number-requires
@@ -33,12 +33,12 @@ split-answer-requires c κs = λ e. absurd (c .if1 .taken e)
 returns : tie.Need-returns
 returns c =
     let k = c .before .before in
-    refused _ _ (from k) (main k) (aux k) (k .split-number .ensures) (c .before .if1 .taken) (c .split-answer .ensures)
+    refused _ _ (from k) (main k) (auxiliary k) (k .split-number .ensures) (c .before .if1 .taken) (c .split-answer .ensures)
 
 both-views-requires : tie.Need-both-views-requires
 both-views-requires c κs =
     let f = fits (c .before .before .before .before .before .before) in
-    (f .y-whole, (f .u-whole, (f .v-whole, (f .main-room, f .aux-room))))
+    (f .y-whole, (f .u-whole, (f .v-whole, (f .main-room, f .auxiliary-room))))
 
 split-answer-requires-2 : tie.Need-split-answer-requires-2
 split-answer-requires-2 c κs = λ e. fits (c .before .before .before .before .before .before .before .before .before .before .before .before .before .before .before .before .before .before .before) .small
@@ -70,7 +70,7 @@ returns-2 c =
     let b = written c in
     let e = b .before .before .before .before .before .before .before in
     let k = e .before in
-    done _ _ (from k) (main k) (aux k) (k .split-number .ensures) (e .if1 .left) (c .split-answer2 .ensures) (b .both-views .ensures .0) (b .both-views .ensures .1)
+    done _ _ (from k) (main k) (auxiliary k) (k .split-number .ensures) (e .if1 .left) (c .split-answer2 .ensures) (b .both-views .ensures .0) (b .both-views .ensures .1)
 
 pub split-spec : {M : Type 1} → statement M
 split-spec =

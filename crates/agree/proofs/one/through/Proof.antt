@@ -25,24 +25,24 @@ from c = planes (start c .args .y .now) (start c .args .u .now) (start c .args .
 abbrev main : tie.After-through-number → Planes
 main c = planes (start c .args .main-y .now) (start c .args .main-u .now) (start c .args .main-v .now)
 
-abbrev aux : tie.After-through-number → Planes
-aux c = planes (start c .args .aux-y .now) (start c .args .aux-u .now) (start c .args .aux-v .now)
+abbrev auxiliary : tie.After-through-number → Planes
+auxiliary c = planes (start c .args .auxiliary-y .now) (start c .args .auxiliary-u .now) (start c .args .auxiliary-v .now)
 
 abbrev old : tie.After-through-number → Planes
 old c = planes (start c .args .qy .now) (start c .args .qu .now) (start c .args .qv .now)
 
 numbered : (c : tie.After-through-number) → c .through-number .result
-    ≡ firstOf (splitNumberOf (start c .args .size) (lengthsOf (from c)) (lengthsOf (main c)) (lengthsOf (aux c)))
+    ≡ firstOf (splitNumberOf (start c .args .size) (lengthsOf (from c)) (lengthsOf (main c)) (lengthsOf (auxiliary c)))
     (earlierNumberOf (start c .args .size) (lengthsOf (old c)) (length (now (start c .args .rects))))
 numbered c = c .through-number .ensures
 
 zero : (c : tie.Else1)
     → let a = start (c .before) .args in
-    throughNumberOf (a .layout) (a .size) (now (a .rects)) (from (c .before)) (main (c .before)) (aux (c .before)) (old (c .before)) ≡ 0
+    throughNumberOf (a .layout) (a .size) (now (a .rects)) (from (c .before)) (main (c .before)) (auxiliary (c .before)) (old (c .before)) ≡ 0
 zero c =
     let k = c .before in
     let a = start k .args in
-    through-plainly (a .layout) (a .size) (now (a .rects)) (from k) (main k) (aux k) (old k) ∙ sym (numbered k) ∙ c .if1 .left
+    through-plainly (a .layout) (a .size) (now (a .rects)) (from k) (main k) (auxiliary k) (old k) ∙ sym (numbered k) ∙ c .if1 .left
 
 through-number-requires : tie.Need-through-number-requires
 through-number-requires c κs = search needs
@@ -51,7 +51,7 @@ returns : tie.Need-returns
 returns c =
     let k = c .before in
     let a = start k .args in
-    through-refused (a .layout) (a .size) (now (a .rects)) (from k) (main k) (aux k) (old k) (numbered k) (c .if1 .taken)
+    through-refused (a .layout) (a .size) (now (a .rects)) (from k) (main k) (auxiliary k) (old k) (numbered k) (c .if1 .taken)
 
 split-requires : tie.Need-split-requires
 split-requires c κs = search needs
@@ -99,7 +99,7 @@ returns-2 c =
     let k = e .before in
     let a = start k .args in
     let first = c .before .before .before .before .before .before .before .before .before .before .before .before .before .before .before .before .before .before .before in
-    through-done (a .layout) (a .size) (now (a .rects)) (from k) (main k) (aux k) (old k) (zero e)
+    through-done (a .layout) (a .size) (now (a .rects)) (from k) (main k) (auxiliary k) (old k) (zero e)
     (s .split .ensures) (first .before .before .before .before .before .before .before .view-of .ensures) (first .apply-main-view .ensures) (c .before .before .before .before .before .before .apply-auxiliary-view .ensures)
 
 pub through-spec : {M : Type 1} → statement M

@@ -13,7 +13,7 @@ use Rattle.layout.specs.declared.Layout.the-variants.{V1}
 use Rattle.layout.specs.Maps.{shift, upperOf}
 use Rattle.layout.proofs.Halves.{shift-le}
 use Rattle.layout.proofs.Pairs.{v1-odd-facts, v1-odd-holds}
-use Rattle.apply_auxiliary_rows.specs.Rows.{auxSource}
+use Rattle.apply_auxiliary_rows.specs.Rows.{auxiliarySource}
 use Rattle.apply_auxiliary_rows.proofs.Columns.{columns-none, columns-same}
 use Rattle.apply_auxiliary_rows.proofs.Sources.{v1-odd-source}
 use Rattle.apply_auxiliary_rows.proofs.v1.v1_odd_row.Statement.{statement}
@@ -161,7 +161,7 @@ returns-4 c =
     let at : f .at .given .0 .0 ≡ (upperOf (a .row) + shift (a .which) 8) * a .w .«luma_stride» = there f .1 ∙ ap (λ (m : ℕ). m * a .w .«luma_stride») (own (second-of f)) in
     λ vu vv. call .put-copy .ensures
     ∙ (λ i. painted (n .stride .ensures .0 i) (h .rows .ensures .0 i) (rowPart every (a .row) (a .left) (l .least .result)) (λ _ k. getD (now (a .vy)) (at i + k) 0) (now (a .dst)))
-    ∙ columns-same _ _ (a .row) (a .left) _ (l .least .result) (a .right) every _ _ (auxSource V1 (a .which) (a .w) (now (a .vy)) vu vv)
+    ∙ columns-same _ _ (a .row) (a .left) _ (l .least .result) (a .right) every _ _ (auxiliarySource V1 (a .which) (a .w) (now (a .vy)) vu vv)
     (λ k low m e. (omega (arith, l .least .ensures), v1-odd-holds (a .w .width) (a .w .height) (a .row) k (s .pre .1 .1) (pair-there f) (omega (arith, l .least .ensures))))
     (λ k low m e. (omega (arith, l .least .ensures, v1-odd-facts (a .w .width) (a .w .height) (a .row) k (s .pre .1 .1) e), refl))
     (λ k e. sym (v1-odd-source (a .which) (a .w) (now (a .vy)) vu vv (a .row) k (s .pre .1 .1)))

@@ -16,7 +16,7 @@ use Rattle.layout.specs.Exists.{v2EvensBelowOf}
 use Rattle.layout.proofs.Halves.{shift-le}
 use Rattle.columns.specs.Turns.{even, fourth}
 use Rattle.columns.proofs.Turns.{even-true, is-even}
-use Rattle.apply_auxiliary_rows.specs.Rows.{auxSource}
+use Rattle.apply_auxiliary_rows.specs.Rows.{auxiliarySource}
 use Rattle.apply_auxiliary_rows.proofs.Columns.{columns-none, columns-same}
 use Rattle.apply_auxiliary_rows.proofs.Feeds.{v2-evens-facts, v2-evens-holds}
 use Rattle.apply_auxiliary_rows.proofs.Sources.{v2-even-source}
@@ -154,7 +154,7 @@ returns-4 c =
     λ i. there f .1 i + (o .second .ensures ∙ ap (λ (m : ℕ). shift (a .which) (m / 4)) (o .before .v2-width .ensures)) i in
     λ vy. call .put-evens .ensures
     ∙ (λ i. painted (n .stride .ensures .0 i) (h .rows .ensures .0 i) (rowPart even (a .row) (a .left) (l .least .result)) (λ _ k. fourth (now (a .vu)) (now (a .vv)) (at i) k) (now (a .dst)))
-    ∙ columns-same _ _ (a .row) (a .left) _ (l .least .result) (a .right) even _ _ (auxSource V2 (a .which) (a .w) vy (now (a .vu)) (now (a .vv)))
+    ∙ columns-same _ _ (a .row) (a .left) _ (l .least .result) (a .right) even _ _ (auxiliarySource V2 (a .which) (a .w) vy (now (a .vu)) (now (a .vv)))
     (λ k low m e. (omega (arith, stops l), v2-evens-holds (a .w) (a .row) k (even-true k e) (by-odd f) (there f .0) (omega (arith, stops l))))
     (λ k low m e. let t = v2-evens-facts (a .w) (a .row) k e in (omega (arith, stops l, t), is-even k (t .0)))
     (λ k e. sym (v2-even-source (a .which) (a .w) vy (now (a .vu)) (now (a .vv)) (a .row) k (even-true k e)))

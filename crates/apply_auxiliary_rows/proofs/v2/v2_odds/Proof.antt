@@ -15,7 +15,7 @@ use Rattle.layout.specs.Exists.{v2OddsBelowOf}
 use Rattle.layout.proofs.Halves.{shift-le}
 use Rattle.columns.specs.Turns.{odd}
 use Rattle.columns.proofs.Turns.{odd-true, is-odd}
-use Rattle.apply_auxiliary_rows.specs.Rows.{auxSource}
+use Rattle.apply_auxiliary_rows.specs.Rows.{auxiliarySource}
 use Rattle.apply_auxiliary_rows.proofs.Columns.{columns-none, columns-same}
 use Rattle.apply_auxiliary_rows.proofs.Feeds.{v2-odds-facts, v2-odds-holds}
 use Rattle.apply_auxiliary_rows.proofs.Sources.{v2-odd-source}
@@ -128,7 +128,7 @@ returns-3 c =
     λ i. there f .1 i + (o .second .ensures ∙ ap (λ (m : ℕ). shift (a .which) (m / 2)) (o .before .v2-width .ensures)) i in
     λ vu vv. call .put-odds .ensures
     ∙ (λ i. painted (n .stride .ensures .0 i) (h .rows .ensures .0 i) (rowPart odd (a .row) (a .left) (l .least .result)) (λ _ k. getD (now (a .vy)) (at i + k / 2) 0) (now (a .dst)))
-    ∙ columns-same _ _ (a .row) (a .left) _ (l .least .result) (a .right) odd _ _ (auxSource V2 (a .which) (a .w) (now (a .vy)) vu vv)
+    ∙ columns-same _ _ (a .row) (a .left) _ (l .least .result) (a .right) odd _ _ (auxiliarySource V2 (a .which) (a .w) (now (a .vy)) vu vv)
     (λ k low m e. (omega (arith, stops l), v2-odds-holds (a .w) (a .row) k (odd-true k e) (there f .0) (omega (arith, stops l))))
     (λ k low m e. let t = v2-odds-facts (a .w) (a .row) k e in (omega (arith, stops l, t), is-odd k (t .0)))
     (λ k e. sym (v2-odd-source (a .which) (a .w) (now (a .vy)) vu vv (a .row) k (odd-true k e)))

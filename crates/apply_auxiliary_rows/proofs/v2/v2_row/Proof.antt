@@ -9,7 +9,7 @@ use Rattle.picture.specs.Sizes.{strideOf, rowsOf}
 use Rattle.layout.specs.declared.Layout.the-variants.{V2}
 use Rattle.columns.specs.Turns.{odd, even}
 use Rattle.columns.proofs.Turns.{parity, is-odd, is-even}
-use Rattle.apply_auxiliary_rows.specs.Rows.{auxSource, auxRow, auxOnly}
+use Rattle.apply_auxiliary_rows.specs.Rows.{auxiliarySource, auxiliaryRow, auxiliaryOnly}
 use Rattle.apply_auxiliary_rows.proofs.Columns.{columns-all, columns-more}
 use Rattle.apply_auxiliary_rows.proofs.v2.v2_row.Statement.{statement}
 use Rattle.apply_auxiliary_rows.proofs.v2.v2_row.Tie as tie
@@ -32,12 +32,12 @@ returns c =
     let o = e .before .before .before .before in
     let g = o .before .before .before .before in
     let a = g .before .before .before .before .before .before .args in
-    let s = auxSource V2 (a .which) (a .w) (now (a .vy)) (now (a .vu)) (now (a .vv)) in
+    let s = auxiliarySource V2 (a .which) (a .w) (now (a .vy)) (now (a .vu)) (now (a .vv)) in
     let mid = g .v2-together .result in
     e .v2-evens .ensures (now (a .vy))
-    ∙ ap (painted (strideOf (a .size)) (rowsOf (a .size)) (auxOnly even V2 (a .w) (a .row) mid (a .right)) s) (o .v2-odds .ensures (now (a .vu)) (now (a .vv)))
+    ∙ ap (painted (strideOf (a .size)) (rowsOf (a .size)) (auxiliaryOnly even V2 (a .w) (a .row) mid (a .right)) s) (o .v2-odds .ensures (now (a .vu)) (now (a .vv)))
     ∙ columns-all _ _ (a .row) mid _ (a .right) _ odd even s (λ k. ⊎-elim (λ is. inl (is-odd k is)) (λ is. inr (is-even k is)) (parity k))
-    ∙ ap (painted (strideOf (a .size)) (rowsOf (a .size)) (auxRow V2 (a .w) (a .row) mid (a .right)) s) (g .v2-together .ensures .1)
+    ∙ ap (painted (strideOf (a .size)) (rowsOf (a .size)) (auxiliaryRow V2 (a .w) (a .row) mid (a .right)) s) (g .v2-together .ensures .1)
     ∙ columns-more _ _ (a .row) (a .left) _ mid (a .right) _ s (g .v2-together .ensures .0 .0) (g .v2-together .ensures .0 .1)
 
 pub v2-row-spec : {M : Type 1} → statement M

@@ -20,7 +20,7 @@ use Rattle.layout.proofs.Halves.{shift-le}
 use Rattle.layout.proofs.Pairs.{v2-odd-holds, v2-even-holds}
 use Rattle.columns.specs.Turns.{odd, fourth}
 use Rattle.columns.proofs.Turns.{parity, is-odd, not-odd}
-use Rattle.apply_auxiliary_rows.specs.Rows.{auxSource}
+use Rattle.apply_auxiliary_rows.specs.Rows.{auxiliarySource}
 use Rattle.apply_auxiliary_rows.proofs.Columns.{columns-none, columns-same}
 use Rattle.apply_auxiliary_rows.proofs.Sources.{v2-odd-source, v2-even-source}
 use Rattle.apply_auxiliary_rows.proofs.Limits.{odds-seen, evens-seen, odds-below-evens}
@@ -216,7 +216,7 @@ returns-5 c =
       (omega (arith, t .if2 .left), omega (arith, stops t), omega (arith, s .pre .0 .even-right, stops t)),
       call .put-full .ensures
           ∙ (λ i. painted (n .stride .ensures .0 i) (h .rows .ensures .0 i) (rowPart every (a .row) (a .left) (t .before .least .result)) (λ _ k. cond (odd k) (getD (now (a .vy)) (luma i + k / 2) 0) (fourth (now (a .vu)) (now (a .vv)) (at i) k)) (now (a .dst)))
-          ∙ columns-same _ _ (a .row) (a .left) _ (t .before .least .result) (t .before .least .result) every _ _ (auxSource V2 (a .which) (a .w) (now (a .vy)) (now (a .vu)) (now (a .vv)))
+          ∙ columns-same _ _ (a .row) (a .left) _ (t .before .least .result) (t .before .least .result) every _ _ (auxiliarySource V2 (a .which) (a .w) (now (a .vy)) (now (a .vu)) (now (a .vv)))
           (λ k low m e. (
             m,
             ⊎-elim

@@ -5,23 +5,23 @@ use Rattle.haythaw.proofs.combine_calls.haythaw_apply_auxiliary_v2.Stat
 use Rattle.haythaw.proofs.combine_calls.haythaw_apply_auxiliary_v2.Tie as tie
 
 -- the call, seen from the return
-abbrev call : tie.After-slice-known6 → tie.After-apply-auxiliary-v2
+abbrev call : tie.After-slice-known6 → tie.After-apply-auxiliary-view
 call c = c .before .before .before .before .before .before
 
-apply-auxiliary-v2-requires : tie.Need-apply-auxiliary-v2-requires
-apply-auxiliary-v2-requires c κs = tt
+apply-auxiliary-view-requires : tie.Need-apply-auxiliary-view-requires
+apply-auxiliary-view-requires c κs = tt
 
 same-length : tie.Need-same-length
-same-length c = call c .apply-auxiliary-v2 .kept .1 .0
+same-length c = call c .apply-auxiliary-view .kept .1 .1 .0
 
 same-length-2 : tie.Need-same-length-2
-same-length-2 c = call c .apply-auxiliary-v2 .kept .1 .1 .0
+same-length-2 c = call c .apply-auxiliary-view .kept .1 .1 .1 .0
 
 same-length-3 : tie.Need-same-length-3
-same-length-3 c = call c .apply-auxiliary-v2 .kept .1 .1 .1 .0
+same-length-3 c = call c .apply-auxiliary-view .kept .1 .1 .1 .1 .0
 
 returns : tie.Need-returns
-returns c = number-alone (call c .apply-auxiliary-v2 .ensures)
+returns c = number-alone (call c .apply-auxiliary-view .ensures)
 
 pub haythaw-apply-auxiliary-v2-spec : {M : Type 1} → statement M
-haythaw-apply-auxiliary-v2-spec = tie.close (tie.spec apply-auxiliary-v2-requires same-length same-length-2 same-length-3 returns)
+haythaw-apply-auxiliary-v2-spec = tie.close (tie.spec apply-auxiliary-view-requires same-length same-length-2 same-length-3 returns)

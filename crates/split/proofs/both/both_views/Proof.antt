@@ -4,7 +4,7 @@ use borrow.Author.Needs.{needs}
 use Prim.Native.Nat.{ℕ}
 use mathlib.Core.Path.{_≡_}
 use Rattle.layout.specs.Maps.{Part}
-use Rattle.split_views.specs.Views.{Planes, planes, mainSample, auxSample, Written}
+use Rattle.split_views.specs.Views.{Planes, planes, mainSample, auxiliarySample, Written}
 use Rattle.split.proofs.both.both_views.Statement.{statement}
 use Rattle.split.proofs.both.both_views.Tie as tie
 
@@ -20,8 +20,8 @@ main-view-requires c κs =
     let f = r .before .before .before .before .before .before .before .before .before .before .before .pre in
     rw (r .before .stride .ensures .0, r .rows .ensures .0) (f .0, (f .1 .0, (f .1 .1 .0, f .1 .1 .1 .0)))
 
-aux-view-requires : tie.Need-aux-view-requires
-aux-view-requires c κs =
+auxiliary-view-requires : tie.Need-auxiliary-view-requires
+auxiliary-view-requires c κs =
     let r = c .before .before .before .before .before .before .before .before .before .before .before .before .before in
     let f = r .before .before .before .before .before .before .before .before .before .before .before .pre in
     rw (r .before .stride .ensures .0, r .rows .ensures .0) (f .1 .0, (f .1 .1 .0, f .1 .1 .1 .1))
@@ -29,8 +29,8 @@ aux-view-requires c κs =
 abbrev main-done : tie.After-slice-known12 → tie.After-main-view
 main-done c = c .before .before .before .before .before .before .before .before .before .before .before .before .before .before .before .before
 
-abbrev aux-done : tie.After-slice-known12 → tie.After-aux-view
-aux-done c = c .before .before .before .before .before .before
+abbrev auxiliary-done : tie.After-slice-known12 → tie.After-auxiliary-view
+auxiliary-done c = c .before .before .before .before .before .before
 
 same-length : tie.Need-same-length
 same-length c = main-done c .main-view .kept .1 .1 .1 .1 .1 .0
@@ -42,13 +42,13 @@ same-length-3 : tie.Need-same-length-3
 same-length-3 c = main-done c .main-view .kept .1 .1 .1 .1 .1 .1 .1 .0
 
 same-length-4 : tie.Need-same-length-4
-same-length-4 c = aux-done c .aux-view .kept .1 .1 .1 .1 .1 .0
+same-length-4 c = auxiliary-done c .auxiliary-view .kept .1 .1 .1 .1 .1 .0
 
 same-length-5 : tie.Need-same-length-5
-same-length-5 c = aux-done c .aux-view .kept .1 .1 .1 .1 .1 .1 .0
+same-length-5 c = auxiliary-done c .auxiliary-view .kept .1 .1 .1 .1 .1 .1 .0
 
 same-length-6 : tie.Need-same-length-6
-same-length-6 c = aux-done c .aux-view .kept .1 .1 .1 .1 .1 .1 .1 .0
+same-length-6 c = auxiliary-done c .auxiliary-view .kept .1 .1 .1 .1 .1 .1 .1 .0
 
 -- stride and rows are the size's
 written-at : {w w′ h h′ : ℕ} {old new : Planes} (s : ℕ → Part → ℕ → ℕ → ℕ) → w ≡ w′ → h ≡ h′ → Written w h (s w) old new → Written w′ h′ (s w′) old new
@@ -61,9 +61,9 @@ returns c =
     let high = r .rows .ensures .0 in
     let a = r .before .before .before .before .before .before .before .before .before .before .before .args in (
       written-at (λ w. mainSample w (planes (a .y .now) (a .u .now) (a .v .now))) wide high (main-done c .main-view .ensures),
-      written-at (λ w. auxSample (a .layout) w (a .u .now) (a .v .now)) wide high (aux-done c .aux-view .ensures),
+      written-at (λ w. auxiliarySample (a .layout) w (a .u .now) (a .v .now)) wide high (auxiliary-done c .auxiliary-view .ensures),
     )
 
 pub both-views-spec : {M : Type 1} → statement M
 both-views-spec =
-    tie.close (tie.spec stride-requires rows-requires main-view-requires aux-view-requires same-length same-length-2 same-length-3 same-length-4 same-length-5 same-length-6 returns)
+    tie.close (tie.spec stride-requires rows-requires main-view-requires auxiliary-view-requires same-length same-length-2 same-length-3 same-length-4 same-length-5 same-length-6 returns)

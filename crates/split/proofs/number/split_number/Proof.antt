@@ -27,7 +27,7 @@ planes-short-requires c κs = search needs
 returns : tie.Need-returns
 returns c =
     let k = c .before .before .args in
-    sym (split-1-exactly (k .size) (k .from) (k .main) (k .aux) .1 (sym (c .before .planes-short .ensures) ∙ c .if1 .taken))
+    sym (split-1-exactly (k .size) (k .from) (k .main) (k .auxiliary) .1 (sym (c .before .planes-short .ensures) ∙ c .if1 .taken))
 
 too-large-requires : tie.Need-too-large-requires
 too-large-requires c κs = search needs
@@ -36,7 +36,7 @@ returns-2 : tie.Need-returns-2
 returns-2 c =
     let e = c .before .before in
     let k = e .before .before .args in
-    sym (split-5-exactly (k .size) (k .from) (k .main) (k .aux) .1 (long e, sym (c .before .too-large .ensures) ∙ c .if2 .taken))
+    sym (split-5-exactly (k .size) (k .from) (k .main) (k .auxiliary) .1 (long e, sym (c .before .too-large .ensures) ∙ c .if2 .taken))
 
 view-short-requires : tie.Need-view-short-requires
 view-short-requires c κs = search needs
@@ -45,7 +45,7 @@ returns-3 : tie.Need-returns-3
 returns-3 c =
     let e = c .before .before in
     let k = e .before .before .before .before .args in
-    sym (split-6-exactly (k .size) (k .from) (k .main) (k .aux) .1 ((long (e .before .before), small e), or-left (viewShort (k .size) (k .main)) (viewShort (k .size) (k .aux)) (sym (c .before .view-short .ensures) ∙ c .if3 .taken)))
+    sym (split-6-exactly (k .size) (k .from) (k .main) (k .auxiliary) .1 ((long (e .before .before), small e), or-left (viewShort (k .size) (k .main)) (viewShort (k .size) (k .auxiliary)) (sym (c .before .view-short .ensures) ∙ c .if3 .taken)))
 
 view-short-requires-2 : tie.Need-view-short-requires-2
 view-short-requires-2 c κs = search needs
@@ -54,14 +54,14 @@ returns-4 : tie.Need-returns-4
 returns-4 c =
     let e = c .before .before .before .before in
     let k = e .before .before .before .before .args in
-    sym (split-6-exactly (k .size) (k .from) (k .main) (k .aux) .1 ((long (e .before .before), small e), or-right (viewShort (k .size) (k .main)) (viewShort (k .size) (k .aux)) (sym (c .before .view-short2 .ensures) ∙ c .if4 .taken)))
+    sym (split-6-exactly (k .size) (k .from) (k .main) (k .auxiliary) .1 ((long (e .before .before), small e), or-right (viewShort (k .size) (k .main)) (viewShort (k .size) (k .auxiliary)) (sym (c .before .view-short2 .ensures) ∙ c .if4 .taken)))
 
 returns-5 : tie.Need-returns-5
 returns-5 c =
     let e = c .before .before .before .before in
     let k = e .before .before .before .before .args in
-    let room = nor (viewShort (k .size) (k .main)) (viewShort (k .size) (k .aux)) .1 (main-fits (c .before .before), sym (c .before .view-short2 .ensures) ∙ c .if4 .left) in
-    sym (split-0-exactly (k .size) (k .from) (k .main) (k .aux) .1 (long (e .before .before), (small e, room)))
+    let room = nor (viewShort (k .size) (k .main)) (viewShort (k .size) (k .auxiliary)) .1 (main-fits (c .before .before), sym (c .before .view-short2 .ensures) ∙ c .if4 .left) in
+    sym (split-0-exactly (k .size) (k .from) (k .main) (k .auxiliary) .1 (long (e .before .before), (small e, room)))
 
 pub split-number-spec : {M : Type 1} → statement M
 split-number-spec =

@@ -11,12 +11,12 @@ use Rattle.lent.proofs.Painted.{length-painted}
 use Rattle.lent.proofs.Rows.{whole-none, whole-more, whole-all}
 use native.Mathlib.Nat.{le-trans, mul-le-mul-right}
 use Rattle.layout.specs.Maps.{PY}
-use Rattle.split_views.specs.Views.{auxSample}
+use Rattle.split_views.specs.Views.{auxiliarySample}
 use Rattle.split_views.proofs.auxiliary.luma.Statement.{statement}
 use Rattle.split_views.proofs.auxiliary.luma.Tie as tie
 
 abbrev Inv-loop : tie.InvT-loop
-Inv-loop layout out₀ u v stride rows row₀ out row = (row ≤ rows) × (length out ≡ length out₀) × (out ≡ painted stride rows (upTo whole row) (auxSample layout stride u v PY) out₀)
+Inv-loop layout out₀ u v stride rows row₀ out row = (row ≤ rows) × (length out ≡ length out₀) × (out ≡ painted stride rows (upTo whole row) (auxiliarySample layout stride u v PY) out₀)
 
 abbrev μ-loop : tie.MeasureT-loop
 μ-loop layout out₀ u v stride rows row₀ out row = rows - row

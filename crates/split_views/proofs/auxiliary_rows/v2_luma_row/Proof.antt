@@ -8,7 +8,7 @@ use mathlib.Core.Path.{ap, _∙_}
 use Rattle.layout.specs.Maps.{PY}
 use Rattle.layout.specs.declared.Chroma.the-variants.{CU, CV}
 use Rattle.layout.specs.declared.Layout.the-variants.{V2}
-use Rattle.split_views.specs.Views.{auxSample}
+use Rattle.split_views.specs.Views.{auxiliarySample}
 use Rattle.split_rows.proofs.Rows.{two-halves}
 use Rattle.split_views.proofs.Spots.{v2-luma-half}
 use Rattle.split_views.proofs.auxiliary_rows.v2_luma_row.Statement.{statement}
@@ -47,11 +47,11 @@ returns c =
     let p = q .before .before .before .before in
     let s = c .before .before .before .before .before .before .before .before .before .before .before in
     let a = s .args in
-    let aux = v2-luma-half (a .stride) (a .u .now) (a .v .now) (s .pre .1 .0) in
-    two-halves (a .out .now) (p .seconds-row .last .0) (q .seconds-row2 .last .0) (a .stride / 2) (a .stride) _ _ (auxSample V2 (a .stride) (a .u .now) (a .v .now) PY (a .row)) (s .pre .0) (omega (arith, s .pre .1 .0))
+    let auxiliary = v2-luma-half (a .stride) (a .u .now) (a .v .now) (s .pre .1 .0) in
+    two-halves (a .out .now) (p .seconds-row .last .0) (q .seconds-row2 .last .0) (a .stride / 2) (a .stride) _ _ (auxiliarySample V2 (a .stride) (a .u .now) (a .v .now) PY (a .row)) (s .pre .0) (omega (arith, s .pre .1 .0))
     (p .seconds-row .ensures) (q .seconds-row2 .ensures)
-    (λ j h. aux CU (a .row) j h ∙ ap (auxSample V2 (a .stride) (a .u .now) (a .v .now) PY (a .row)) (zero-add j))
-    (aux CV (a .row))
+    (λ j h. auxiliary CU (a .row) j h ∙ ap (auxiliarySample V2 (a .stride) (a .u .now) (a .v .now) PY (a .row)) (zero-add j))
+    (auxiliary CV (a .row))
 
 pub v2-luma-row-spec : {M : Type 1} → statement M
 v2-luma-row-spec =

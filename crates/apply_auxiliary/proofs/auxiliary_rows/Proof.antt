@@ -1,4 +1,4 @@
--- `apply_auxiliary::aux_rows` meets its contract. The invariant: the plane is painted by what the area takes in the rows below `row`.
+-- `apply_auxiliary::auxiliary_rows` meets its contract. The invariant: the plane is painted by what the area takes in the rows below `row`.
 -- Assumes nothing.
 use borrow.Author.Needs.{needs}
 use Prim.Native.Nat.{_-_, _≤_}
@@ -7,16 +7,16 @@ use mathlib.Core.Path.{_≡_, refl, _∙_}
 use lib.ListN.{length}
 use Rattle.lent.specs.Paint.{painted, upTo}
 use Rattle.picture.specs.Sizes.{strideOf, rowsOf}
-use Rattle.apply_auxiliary_rows.specs.Rows.{auxSource}
-use Rattle.apply_auxiliary.specs.Auxiliary.{auxIn}
+use Rattle.apply_auxiliary_rows.specs.Rows.{auxiliarySource}
+use Rattle.apply_auxiliary.specs.Auxiliary.{auxiliaryIn}
 use Rattle.apply_auxiliary.proofs.Taken.{area-rows-none, area-rows-more, area-rows-all}
-use Rattle.apply_auxiliary.proofs.aux_rows.Statement.{statement}
-use Rattle.apply_auxiliary.proofs.aux_rows.Tie as tie
+use Rattle.apply_auxiliary.proofs.auxiliary_rows.Statement.{statement}
+use Rattle.apply_auxiliary.proofs.auxiliary_rows.Tie as tie
 
 abbrev Inv-loop : tie.InvT-loop
 Inv-loop layout which plane₀ size area w vy vu vv row₀ plane row =
     (area .top ≤ row) × (length plane ≡ length plane₀)
-    × (plane ≡ painted (strideOf size) (rowsOf size) (upTo (auxIn layout w area) row) (auxSource layout which w vy vu vv) plane₀)
+    × (plane ≡ painted (strideOf size) (rowsOf size) (upTo (auxiliaryIn layout w area) row) (auxiliarySource layout which w vy vu vv) plane₀)
 
 abbrev μ-loop : tie.MeasureT-loop
 μ-loop layout which plane₀ size area w vy vu vv row₀ plane row = area .bottom - row
@@ -24,8 +24,8 @@ abbrev μ-loop : tie.MeasureT-loop
 loop-holds : tie.Need-loop-holds Inv-loop μ-loop
 loop-holds c = (omega arith, refl, area-rows-none _ _ _ _ _ _ _)
 
-aux-row-requires : tie.Need-aux-row-requires Inv-loop μ-loop
-aux-row-requires c κs = search needs
+auxiliary-row-requires : tie.Need-auxiliary-row-requires Inv-loop μ-loop
+auxiliary-row-requires c κs = search needs
 
 add-row : tie.Need-add-row Inv-loop μ-loop
 add-row c = omega arith
@@ -35,7 +35,7 @@ loop-less c = omega arith
 
 loop-again : tie.Need-loop-again Inv-loop μ-loop
 loop-again c =
-    let call = c .before .before .aux-row in
+    let call = c .before .before .auxiliary-row in
     let l = c .before .before .before .before .before .before in
     let a = l .before .before .before .before .before .args in (
       omega arith,
@@ -49,6 +49,6 @@ same-length c = omega arith
 returns : tie.Need-returns Inv-loop μ-loop
 returns c = let l = c .before .before in area-rows-all _ _ _ _ _ _ _ (l .loop .row) (c .if1 .left) (l .loop .inv .2)
 
-pub aux-rows-spec : {M : Type 1} → statement M
-aux-rows-spec =
-    tie.close (tie.spec Inv-loop μ-loop loop-holds aux-row-requires add-row loop-less loop-again same-length returns)
+pub auxiliary-rows-spec : {M : Type 1} → statement M
+auxiliary-rows-spec =
+    tie.close (tie.spec Inv-loop μ-loop loop-holds auxiliary-row-requires add-row loop-less loop-again same-length returns)

@@ -1,4 +1,4 @@
--- `apply_auxiliary::aux_row` meets its contract: each layout has its function.
+-- `apply_auxiliary::auxiliary_row` meets its contract: each layout has its function.
 -- Assumes nothing.
 use borrow.Author.Needs.{needs}
 use mathlib.Core.Path.{sym, ap, _∙_}
@@ -8,15 +8,15 @@ use Prim.Native.Nat.{ℕ}
 use Rattle.lent.specs.Paint.{painted}
 use Rattle.picture.specs.Sizes.{strideOf, rowsOf}
 use Rattle.layout.specs.declared.Layout.{Layout}
-use Rattle.apply_auxiliary_rows.specs.Rows.{auxSource, auxRow}
-use Rattle.apply_auxiliary.proofs.aux_row.Statement.{statement}
-use Rattle.apply_auxiliary.proofs.aux_row.Tie as tie
+use Rattle.apply_auxiliary_rows.specs.Rows.{auxiliarySource, auxiliaryRow}
+use Rattle.apply_auxiliary.proofs.auxiliary_row.Statement.{statement}
+use Rattle.apply_auxiliary.proofs.auxiliary_row.Tie as tie
 
 -- the plane that the contract asks for, by a layout
 abbrev asked : tie.Start → Layout → List ℕ
 asked s t =
     let a = s .args in
-    painted (strideOf (a .size)) (rowsOf (a .size)) (auxRow t (a .w) (a .row) (a .left) (a .right)) (auxSource t (a .which) (a .w) (now (a .vy)) (now (a .vu)) (now (a .vv))) (now (a .dst))
+    painted (strideOf (a .size)) (rowsOf (a .size)) (auxiliaryRow t (a .w) (a .row) (a .left) (a .right)) (auxiliarySource t (a .which) (a .w) (now (a .vy)) (now (a .vu)) (now (a .vv))) (now (a .dst))
 
 enum-told : tie.Need-enum-told
 enum-told c = search needs
@@ -46,6 +46,6 @@ returns-2 c =
     let told = c .before .before .before .before in
     c .before .before .v2-row .ensures ∙ ap (asked (told .before .before .before .before .before .before)) (sym (told .enum-told2 .given .1))
 
-pub aux-row-spec : {M : Type 1} → statement M
-aux-row-spec =
+pub auxiliary-row-spec : {M : Type 1} → statement M
+auxiliary-row-spec =
     tie.close (tie.spec enum-told v1-row-requires enum-told-2 v2-row-requires same-length returns same-length-2 returns-2)

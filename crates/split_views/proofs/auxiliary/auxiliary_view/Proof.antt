@@ -1,12 +1,12 @@
--- `split_views::auxiliary::aux_view` meets its contract: the luma plane, and both chroma planes, which are layout's.
+-- `split_views::auxiliary::auxiliary_view` meets its contract: the luma plane, and both chroma planes, which are layout's.
 -- Assumes nothing.
 use Prim.Native.Nat.{_/_}
 use native.Mathlib.Omega.{arith}
 use mathlib.Core.Path.{_∙_}
 use Rattle.layout.specs.declared.Chroma.the-variants.{CU, CV}
 use Rattle.split_views.proofs.Planes.{chroma-plane}
-use Rattle.split_views.proofs.auxiliary.aux_view.Statement.{statement}
-use Rattle.split_views.proofs.auxiliary.aux_view.Tie as tie
+use Rattle.split_views.proofs.auxiliary.auxiliary_view.Statement.{statement}
+use Rattle.split_views.proofs.auxiliary.auxiliary_view.Tie as tie
 
 luma-requires : tie.Need-luma-requires
 luma-requires c κs = let p = c .before .before .before .before .before .before .pre in (p .1 .1 .y-room, (p .0, p .1 .0))
@@ -33,12 +33,12 @@ returns c =
     let plane = chroma-plane (a .stride) (a .u .now) (a .v .now) (s .pre .0 .wide) (a .layout) in
     record {
       y-is = c .before .before .before .before .before .before .before .before .before .before .luma .ensures;
-      u-is = c .before .before .before .before .before .before .chroma .ensures ∙ plane CU (a .stride / 2) (a .rows / 2) (a .aux-u .now);
-      v-is = c .before .before .chroma2 .ensures ∙ plane CV (a .stride / 2) (a .rows / 2) (a .aux-v .now);
+      u-is = c .before .before .before .before .before .before .chroma .ensures ∙ plane CU (a .stride / 2) (a .rows / 2) (a .auxiliary-u .now);
+      v-is = c .before .before .chroma2 .ensures ∙ plane CV (a .stride / 2) (a .rows / 2) (a .auxiliary-v .now);
     }
 
-pub aux-view-spec : {M : Type 1} → statement M
-aux-view-spec =
+pub auxiliary-view-spec : {M : Type 1} → statement M
+auxiliary-view-spec =
     tie.close
     (tie.spec
     luma-requires
