@@ -1,6 +1,6 @@
 #!/usr/bin/env bash
-# The stored cases run: compiles tests/stored/run.c against the library for this machine, runs it on the stored input of each program,
-# and compares what it prints with the program's stored output; with buffers lent in three ways, plainly and with the compiler's sanitizers, as far as these are
+# The stored cases run: compiles tests/stored/run.c against the library for this machine, runs it on each file of tests/stored, and compares
+# what it prints with the stored answers; with buffers lent in three ways, plainly and with the compiler's sanitizers, as far as these are
 # at hand. Then its self-test: a stored file with one character altered or its last line cut off, and a run with one answer of the library
 # altered, each has to be noticed. The last line is `stored: N files, M lines, 0 differ`. Status 1 if a line differs or something is not
 # noticed.
@@ -25,10 +25,12 @@ if cc "${sanitizers[@]}" "$made/empty.c" -o "$made/empty" 2>/dev/null && "$made/
     ran+=(sanitized)
 fi
 mapfile -t names < <("$made/plainly")
+outputs=(tests/stored/*.out)
+[[ ${#outputs[@]} -eq ${#names[@]} ]] || { echo "stored: ${#outputs[@]} stored outputs, and ${#names[@]} that are run"; exit 1; }
 
-# Where a program's cases are; those of a program without stdin stand in the C code.
+# Where a file's cases are; those of a file without .in stand in the C code.
 cases() { # NAME
-    if [[ -f crates/$1/stdin ]]; then echo "crates/$1/stdin"; else echo /dev/null; fi
+    if [[ -f tests/stored/$1.in ]]; then echo "tests/stored/$1.in"; else echo /dev/null; fi
 }
 
 # Whether a file is as it is stored; if not, the first line that differs, and both.
@@ -48,7 +50,7 @@ for how in "${ran[@]}"; do
         for way in end start heap; do
             status=0
             "$made/$how" "$name" "$way" <"$(cases "$name")" >"$made/said" 2>"$made/error" || status=$?
-            same "$made/said" "crates/$name/stdout" && [[ $status -eq 0 ]] && continue
+            same "$made/said" "tests/stored/$name.out" && [[ $status -eq 0 ]] && continue
             cat "$made/error"
             echo "stored: FAILED: $name, $how, buffers at the $way, status $status"
             differ=$((differ + 1))
@@ -65,7 +67,7 @@ noticed() { # NAME LINE FILE
     missed=$((missed + 1))
 }
 for name in "${names[@]}"; do
-    stored=crates/$name/stdout
+    stored=tests/stored/$name.out
     count=$(wc -l <"$stored")
     "$made/plainly" "$name" heap <"$(cases "$name")" >"$made/said"
     sed "$((count / 2))s/.\$/~/" "$stored" >"$made/altered.out"
@@ -80,7 +82,7 @@ shown=0 looked=0
 for name in "${names[@]}"; do
     "$made/plainly" "$name" heap list <"$(cases "$name")" 2>"$made/list"
     while read -r call what words; do
-        "$made/plainly" "$name" heap "$call" "$what" <"$(cases "$name")" 2>&1 | cmp -s - "crates/$name/stdout" &&
+        "$made/plainly" "$name" heap "$call" "$what" <"$(cases "$name")" 2>&1 | cmp -s - "tests/stored/$name.out" &&
             ended=("${PIPESTATUS[@]}") || ended=("${PIPESTATUS[@]}")
         case "${ended[*]}" in
         '0 1' | '1 1' | '141 1') shown=$((shown + 1)) ;;
