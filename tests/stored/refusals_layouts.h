@@ -8,7 +8,13 @@
 /* A picture's size and the lengths of its planes; a list of so many numbers; the strides of a view of 16 x 16 and the lengths of its
  * planes. A picture of 5 x 5 has planes of 16 x 16. All bytes of the picture are 201 before, and all of the view 199. */
 enum { VIEW_SIDE = 16, VIEW_BYTE = 199, APPLIED_PLANE = 256 };
-typedef struct { const char *name; uint16_t width, height; size_t planes[3], numbers; uint16_t list[8]; size_t luma, chroma, view[3]; } AppliedCase;
+typedef struct {
+    const char *name;
+    uint16_t width, height;
+    size_t planes[3], numbers;
+    uint16_t list[8];
+    size_t luma, chroma, view[3];
+} AppliedCase;
 #define EXACT_PLANES {256, 256, 256}
 #define SHORT_PLANES {255, 255, 255}
 #define LIST_OF(n) n, {0, 0, 5, 5, 0, 0, 5, 5}
