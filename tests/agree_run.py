@@ -1,6 +1,6 @@
 #!/usr/bin/env python3
-"""What crates/agree_run must print, worked out from demand 3 and document 01 alone: how many samples lie inside the rectangles, widened for
-chroma, and how many elsewhere; none differs, and no refusal changes a byte. Fails where the stored stdout says otherwise."""
+"""What tests/stored/agree_run.out must be, worked out from demand 3 and document 01 alone: how many samples lie inside the rectangles,
+widened for chroma, and how many elsewhere; none differs, and no refusal changes a byte. Fails where the stored file says otherwise."""
 import os, sys
 
 WHOLE = [0, 0, 65535, 65535]
@@ -40,8 +40,8 @@ for name, width, height, numbers in CASES:
 lines += [f"{name}: refused with {n}, 0 bytes changed\n" for name, n in REFUSED]
 lines.append(f"in all: {said(*total)}; 0 bytes changed by refusals\n")
 
-stored = os.path.join(os.path.dirname(os.path.abspath(__file__)), '..', 'crates', 'agree_run', 'stdout')
+stored = os.path.join(os.path.dirname(os.path.abspath(__file__)), 'stored', 'agree_run.out')
 with open(stored) as file:
     if file.read() != ''.join(lines):
-        sys.exit('agree_run: the stored stdout is not what demand 3 gives:\n' + ''.join(lines))
+        sys.exit('agree_run: tests/stored/agree_run.out is not what demand 3 gives:\n' + ''.join(lines))
 print(f'agree_run: the stored {len(lines)} lines are what demand 3 gives')

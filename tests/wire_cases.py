@@ -1,5 +1,5 @@
 #!/usr/bin/env python3
-"""The stored payloads of crates/replay_wire, and what has to be printed of each: a generator and a reader of AVC444 payloads written from
+"""The payloads of tests/stored/replay_wire.in, and what has to be printed of each: a generator and a reader of AVC444 payloads written from
 the words of request E1 of document 02 alone (6, an output that is too short, is of document 01's table). With --write both files are
 written anew; without it they have to be what would be written.
 
@@ -9,7 +9,8 @@ import os
 import sys
 import zlib
 
-HERE = os.path.join(os.path.dirname(os.path.dirname(os.path.abspath(__file__))), 'crates', 'replay_wire')
+HERE = os.path.join(os.path.dirname(os.path.abspath(__file__)), 'stored')
+INPUT = 262144              # bytes of input that tests/stored/run.c has room for
 NOWHERE = (0, 0, 0, 0, 0)   # the five numbers of a stream that is not carried, or of a refused payload
 BEFORE = 43690              # every number of the output of the copy, before it
 ROOM = 8                    # how many numbers that output holds
@@ -316,21 +317,21 @@ WRONG = [one for one in globals().values() if isinstance(one, type) and issubcla
 
 def main():
     payloads = list(cases())
-    stdin = b''.join(len(one).to_bytes(2, 'little') + one for one in payloads)
-    stdout = Reader().lines(payloads)
-    if len(stdin) > 65536:
-        sys.exit(f'wire_cases: {len(stdin)} bytes of input, and the program takes 65536')
+    given = b''.join(len(one).to_bytes(2, 'little') + one for one in payloads)
+    answers = Reader().lines(payloads)
+    if len(given) > INPUT:
+        sys.exit(f'wire_cases: {len(given)} bytes of input, and the program takes {INPUT}')
     wrong = 0
-    for name, text in ('stdin', stdin), ('stdout', stdout.encode()):
+    for name, text in ('replay_wire.in', given), ('replay_wire.out', answers.encode()):
         path = os.path.join(HERE, name)
         if sys.argv[1:] == ['--write']:
             with open(path, 'wb') as file:
                 file.write(text)
         with open(path, 'rb') as file:
             if file.read() != text:
-                print(f'wire_cases: crates/replay_wire/{name} is not what E1 gives')
+                print(f'wire_cases: tests/stored/{name} is not what E1 gives')
                 wrong += 1
-    right = stdout.splitlines()
+    right = answers.splitlines()
     for reader in WRONG:
         others = sum(a != b for a, b in zip(right, reader().lines(payloads).splitlines()))
         if not others:

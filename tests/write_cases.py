@@ -1,5 +1,5 @@
 #!/usr/bin/env python3
-"""The stored cases of crates/replay_write that have a number for a name, and what has to be printed of each: a generator and a writer of
+"""The cases of tests/stored/replay_write.in that have a number for a name, and what has to be printed of each: a generator and a writer of
 AVC444 payloads written from the words of requests E7 and E1 of document 02 alone (7, a list that is not in fours, and 6, an output that is
 too short, are of document 01's table; the size in kinds 1 and 2 is the one that docs/DIFFERENCES.md has of the standard). With --write both
 files are written anew behind the lines that were written by hand; without it they have to be what would be written. The lines by hand have
@@ -12,9 +12,8 @@ import os
 import sys
 from collections import namedtuple
 
-HERE = os.path.join(os.path.dirname(os.path.dirname(os.path.abspath(__file__))), 'crates', 'replay_write')
-INPUT = 262144                                           # what the program has room for: bytes of input,
-NUMBERS, PAIRS, BYTES, OUTPUT = 1100, 600, 300, 4096     # and of a line the numbers of a list, bytes of pairs, H.264 bytes, bytes of output
+HERE = os.path.join(os.path.dirname(os.path.abspath(__file__)), 'stored')
+INPUT = 262144                                           # bytes of input that tests/stored/run.c has room for
 
 Stream = namedtuple('Stream', 'rects pairs h264')        # what is lent for a stream: numbers, and bytes
 Case = namedtuple('Case', 'kind luma chroma room before')
@@ -116,12 +115,6 @@ def read(line):
     streams = [Stream(tuple(int(n, 16) for n in rects.split()), bytes.fromhex(pairs), bytes.fromhex(h264))
                for rects, pairs, h264 in (parts[:3], parts[3:])]
     return name, Case(int(kind), *streams, int(room), int(before, 16))
-
-
-def taken(case):
-    """The program has room for the case."""
-    return case.room <= OUTPUT and all(len(one.rects) <= NUMBERS and len(one.pairs) <= PAIRS and len(one.h264) <= BYTES
-                                       for one in (case.luma, case.chroma))
 
 
 def filler(n, start=41):
@@ -471,7 +464,7 @@ def by_hand(name):
 
 def main():
     generated = [(str(index), case) for index, case in enumerate(dict.fromkeys(cases()))]
-    hand_in, hand_out = by_hand('stdin'), by_hand('stdout')
+    hand_in, hand_out = by_hand('replay_write.in'), by_hand('replay_write.out')
     hand = [read(line) for line in hand_in]
     right = Writer().lines(generated)
     wrong = 0
@@ -481,12 +474,9 @@ def main():
         if said != known:
             print(f'write_cases: by hand {said}\n              E7 gives {known}')
             wrong += 1
-    for name, case in hand + generated:
-        if not taken(case):
-            sys.exit(f'write_cases: the program has no room for case {name}')
-    for name, lines in ('stdin', hand_in + [typed(*one) for one in generated]), ('stdout', hand_out + right):
+    for name, lines in ('replay_write.in', hand_in + [typed(*one) for one in generated]), ('replay_write.out', hand_out + right):
         text = ''.join(line + '\n' for line in lines).encode()
-        if name == 'stdin' and len(text) > INPUT:
+        if name == 'replay_write.in' and len(text) > INPUT:
             sys.exit(f'write_cases: {len(text)} bytes of input, and the program takes {INPUT}')
         path = os.path.join(HERE, name)
         if sys.argv[1:] == ['--write']:
@@ -494,7 +484,7 @@ def main():
                 file.write(text)
         with open(path, 'rb') as file:
             if file.read() != text:
-                print(f'write_cases: crates/replay_write/{name} is not what E7 gives')
+                print(f'write_cases: tests/stored/{name} is not what E7 gives')
                 wrong += 1
     for writer in WRONG:
         others = sum(a != b for a, b in zip(right, writer().lines(generated)))

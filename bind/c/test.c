@@ -4,8 +4,6 @@
  * library answered. Each buffer is exactly as long as the call is told, next to memory that traps (test/lend.h). A line says what was
  * left out, where something was. The last line is `c: N checks, 0 wrong`, and the status is 1 where one is wrong. */
 #define _DEFAULT_SOURCE
-#include <signal.h>
-
 #include "test/by_hand.h"
 #include "test/far.h"
 #include "test/lengths.h"
@@ -97,9 +95,7 @@ static void both_layouts(void)
 int main(int words, char **word)
 {
     (void)word;
-    static const int traps[] = {SIGSEGV, SIGBUS, SIGILL, SIGFPE};
-    for (size_t k = 0; k < sizeof traps / sizeof *traps; k++)
-        signal(traps[k], trapped);
+    trap();
     each_result_type();
     far_addresses();
     refused_far();

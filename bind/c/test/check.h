@@ -1,28 +1,37 @@
-/* What the parts of the test share: counting, the trap, and buffers for a picture and a view. */
+/* What the parts of the test share, and tests/stored: counting, the trap, and buffers for a picture and a view. */
 #ifndef CHECK_H
 #define CHECK_H
+
+#include <signal.h>
 
 #include "calls.h"
 #include "lend.h"
 
+enum { MOST_SAID = 40 }; /* after so many that are wrong, the rest is counted alone */
 static unsigned long checks, wrong;
 static const char *trying = "nothing yet";
 
 static void check(bool holds, const char *call, const char *what)
 {
     checks++;
-    if (!holds && wrong++ < 40)
+    if (!holds && wrong++ < MOST_SAID)
         printf("wrong: %s, %s, buffers %s\n", call, what, place_names[place]);
 }
 
-/* Something touched memory that it was not lent. */
+/* Something touched memory that it was not lent. Status 3, which no answer gives, however wrong. */
 static void trapped(int which)
 {
     static const char said[] = "c: a trap in the call ";
     (void)which;
-    if (write(1, said, sizeof said - 1) < 0 || write(1, trying, strlen(trying)) < 0 || write(1, "\n", 1) < 0)
-        _exit(3);
-    _exit(1);
+    const bool told = write(1, said, sizeof said - 1) > 0 && write(1, trying, strlen(trying)) > 0 && write(1, "\n", 1) > 0;
+    _exit(told ? 3 : 4);
+}
+
+static void trap(void)
+{
+    static const int traps[] = {SIGSEGV, SIGBUS, SIGILL, SIGFPE};
+    for (size_t k = 0; k < sizeof traps / sizeof *traps; k++)
+        signal(traps[k], trapped);
 }
 
 static Result tried(enum call call, const Args *a)
@@ -59,6 +68,17 @@ static bool all_are(const uint8_t *bytes, size_t count, uint8_t value)
         if (bytes[k] != value)
             return false;
     return true;
+}
+
+static size_t up_to(size_t n, size_t unit)
+{
+    return (n + unit - 1) / unit * unit;
+}
+
+/* Bytes of an element. */
+static size_t element(enum slice slice)
+{
+    return slice == RECTS || slice == NUMBERS || slice == L_RECTS || slice == C_RECTS ? 2 : 1;
 }
 
 static void picture(Args *a, uint16_t width, uint16_t height, size_t plane)

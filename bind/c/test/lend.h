@@ -1,4 +1,4 @@
-/* Buffers for test.c that a call cannot leave unseen. Each is lent in three ways, one run of the whole test for each:
+/* Buffers for test.c and tests/stored that a call cannot leave unseen. Each is lent in three ways, one run of the whole test for each:
  *
  *   AT_END     it ends where a page begins that nothing may touch: one byte after it traps
  *   AT_START   it begins where such a page ends: one byte before it traps

@@ -45,12 +45,6 @@ static const struct { size_t used; Need needs[9]; } needs[CALLS] = {
     [LUMA_RECTS] = {2, {THE_PAYLOAD, {NUMBERS, 4, 6, 6}}},
     [CHROMA_RECTS] = {2, {THE_PAYLOAD, {NUMBERS, 8, 6, 6}}}};
 
-/* Bytes of an element. */
-static size_t element(enum slice slice)
-{
-    return slice == RECTS || slice == NUMBERS ? 2 : 1;
-}
-
 enum length { EXACT, SHORTER, LONGER, EMPTY, NO_POINTER, LENGTHS };
 
 static size_t elements(const Need *need, enum length length)

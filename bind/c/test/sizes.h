@@ -10,11 +10,6 @@ static bool longer_than(size_t count, size_t stride, size_t rows)
     return rows > 0 && stride > count / rows;
 }
 
-static size_t up_to(size_t n, size_t unit)
-{
-    return (n + unit - 1) / unit * unit;
-}
-
 static size_t clipped(const Args *a)
 {
     const size_t right = a->right < a->width ? a->right : a->width, bottom = a->bottom < a->height ? a->bottom : a->height;

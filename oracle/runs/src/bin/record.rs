@@ -1,4 +1,4 @@
-//! Writes the stored input and output of the replay programs from the Rust original's answers.
+//! Writes the stored input and output of the replays from the Rust original's answers.
 
 use std::fs;
 use std::path::Path;
@@ -30,16 +30,16 @@ fn seed(words: &[String]) -> Result<u64, String> {
 fn record(seed: u64) -> Result<(), String> {
     println!("seed: {seed}");
     let oracle = Path::new(env!("CARGO_MANIFEST_DIR")).parent().expect("runs stands in oracle");
-    let crates = oracle.parent().expect("oracle stands in the repository").join("crates");
+    let stored = oracle.parent().expect("oracle stands in the repository").join("tests/stored");
     for sample in samples(seed) {
-        write(&crates.join(sample.program), &sample).map_err(|reason| format!("{}: {reason}", sample.program))?;
-        let Sample { program, cases, stdin, stdout } = sample;
-        println!("{program}: {cases} cases, stdin {} bytes, stdout {} bytes", stdin.len(), stdout.len());
+        write(&stored, &sample).map_err(|reason| format!("{}: {reason}", sample.name))?;
+        let Sample { name, cases, input, output } = sample;
+        println!("{name}: {cases} cases, input {} bytes, output {} bytes", input.len(), output.len());
     }
     Ok(())
 }
 
 fn write(folder: &Path, sample: &Sample) -> std::io::Result<()> {
-    fs::write(folder.join("stdin"), &sample.stdin)?;
-    fs::write(folder.join("stdout"), &sample.stdout)
+    fs::write(folder.join(format!("{}.in", sample.name)), &sample.input)?;
+    fs::write(folder.join(format!("{}.out", sample.name)), &sample.output)
 }

@@ -53,11 +53,10 @@ pub fn sample(seed: u64) -> Sample {
     let random = &mut Random::new(seed, "replay_layouts");
     let bytes: Vec<u8> = (0..BYTES).map(|_| random.between(0, 255) as u8).collect();
     let cases = cases(random);
-    let mut sample =
-        Sample { program: "replay_layouts", cases: cases.len(), stdin: bytes.clone(), stdout: String::new() };
+    let mut sample = Sample { name: "replay_layouts", cases: cases.len(), input: bytes.clone(), output: String::new() };
     for (index, case) in cases.iter().enumerate() {
-        sample.stdin.extend(case.record());
-        writeln!(sample.stdout, "{index}: {}", case.answer(&bytes)).expect("a string takes all that is written");
+        sample.input.extend(case.record());
+        writeln!(sample.output, "{index}: {}", case.answer(&bytes)).expect("a string takes all that is written");
     }
     sample
 }

@@ -1,4 +1,4 @@
-//! The stored input and output of the replay programs: cases from a seed, and the Rust original's answers as text.
+//! The stored input and output of the replays in tests/stored: cases from a seed, and the Rust original's answers as text.
 //!
 //! Nothing here calls the library.
 
@@ -9,21 +9,21 @@ mod views;
 
 use std::fmt::Write;
 
-/// What a replay program is run on, and what it has to write.
+/// What a replay is run on, and what it has to print.
 pub struct Sample {
-    /// The program's crate.
-    pub program: &'static str,
+    /// The name of its files.
+    pub name: &'static str,
     pub cases: usize,
-    pub stdin: Vec<u8>,
-    pub stdout: String,
+    pub input: Vec<u8>,
+    pub output: String,
 }
 
-/// The samples of a seed, one for each program.
+/// The samples of a seed, one for each replay.
 pub fn samples(seed: u64) -> Vec<Sample> {
     vec![payloads::sample(seed), views::sample(seed), pictures::sample(seed), layouts::sample(seed)]
 }
 
-/// Adler-32 (RFC 1950), which the programs take too.
+/// Adler-32 (RFC 1950), which the replays take too.
 fn checksum(bytes: &[u8]) -> u32 {
     let (mut a, mut b) = (1, 0);
     for byte in bytes {

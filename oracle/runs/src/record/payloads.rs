@@ -15,11 +15,11 @@ const ENDS: usize = 16;
 
 pub fn sample(seed: u64) -> Sample {
     let cases = cases(&mut Random::new(seed, "replay_payload"));
-    let mut sample = Sample { program: "replay_payload", cases: cases.len(), stdin: Vec::new(), stdout: String::new() };
+    let mut sample = Sample { name: "replay_payload", cases: cases.len(), input: Vec::new(), output: String::new() };
     for (index, case) in cases.iter().enumerate() {
-        sample.stdin.extend(two(case.len()));
-        sample.stdin.extend(case);
-        sample.stdout += &line(index, case);
+        sample.input.extend(two(case.len()));
+        sample.input.extend(case);
+        sample.output += &line(index, case);
     }
     sample
 }

@@ -49,10 +49,10 @@ struct Case {
 
 pub fn sample(seed: u64) -> Sample {
     let cases = cases(&mut Random::new(seed, "replay_picture"));
-    let mut sample = Sample { program: "replay_picture", cases: cases.len(), stdin: Vec::new(), stdout: String::new() };
+    let mut sample = Sample { name: "replay_picture", cases: cases.len(), input: Vec::new(), output: String::new() };
     for (index, case) in cases.iter().enumerate() {
-        sample.stdin.extend(case.record());
-        writeln!(sample.stdout, "{index}: {}", case.answer()).expect("a string takes all that is written");
+        sample.input.extend(case.record());
+        writeln!(sample.output, "{index}: {}", case.answer()).expect("a string takes all that is written");
     }
     sample
 }

@@ -23,10 +23,10 @@ struct Case {
 
 pub fn sample(seed: u64) -> Sample {
     let cases = cases(&mut Random::new(seed, "replay_view"));
-    let mut sample = Sample { program: "replay_view", cases: cases.len(), stdin: Vec::new(), stdout: String::new() };
+    let mut sample = Sample { name: "replay_view", cases: cases.len(), input: Vec::new(), output: String::new() };
     for (index, case) in cases.iter().enumerate() {
-        sample.stdin.extend(case.record());
-        writeln!(sample.stdout, "{index}: {} x {} {}", case.width, case.height, case.answers())
+        sample.input.extend(case.record());
+        writeln!(sample.output, "{index}: {} x {} {}", case.width, case.height, case.answers())
             .expect("a string takes all that is written");
     }
     sample

@@ -1,2 +1,0 @@
--- The laws of a line of text.
-pub mod Lines

@@ -1,2 +1,0 @@
--- A case as a line of text.
-pub mod Lines

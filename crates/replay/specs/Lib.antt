@@ -1,3 +1,0 @@
--- Fields of a stored input, and the checksum.
-pub mod Fields
-pub mod Checksum

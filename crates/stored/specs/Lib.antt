@@ -1,2 +1,0 @@
--- A stored case.
-pub mod Cases
