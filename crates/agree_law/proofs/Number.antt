@@ -161,3 +161,12 @@ module _ (z : Size) (rects : List ℕ) (p m a q : Planes) where
     λ e. lent (sym (through-plainly t z rects p m a q) ∙ e),
     λ l. let zero = accepted l in through-plainly t z rects p m a q ∙ (λ i. firstOf (zero .0 i) (zero .1 i)),
   )
+
+-- demand 3 is not vacuous: both walks are accepted exactly when both earlier pictures are lent as the demand takes them
+pub both-0-exactly : (z : Size) (rects : List ℕ) (p m a q q′ : Planes) → (bothNumberOf z rects p m a q q′ ≡ 0) ↔ (Lent z rects p m a q × Lent z rects p m a q′)
+both-0-exactly z rects p m a q q′ = (
+  λ e. let two = first-zero _ _ (sym (both-plainly z rects p m a q q′) ∙ e) in (lent z rects p m a q (two .0), lent z rects p m a q′ (two .1)),
+  λ l. let one = accepted z rects p m a q (l .0) in
+      let two = accepted z rects p m a q′ (l .1) in
+      both-plainly z rects p m a q q′ ∙ (λ i. firstOf (firstOf (one .0 i) (one .1 i)) (firstOf (two .0 i) (two .1 i))),
+)

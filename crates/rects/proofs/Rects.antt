@@ -1,6 +1,7 @@
 -- Rectangle lists, over any rule and any source: the loop over a list, order and repetition, and the widened area.
 -- Assumes nothing.
-use Prim.Native.Nat.{ℕ, _+_, _*_, _/_, _<_, _≤_, min}
+use Prim.Native.Nat.{ℕ, _+_, _-_, _*_, _/_, _<_, _≤_, min}
+use native.Mathlib.Decide.{decLt}
 use native.Mathlib.Omega.{arith}
 use mathlib.Core.Path.{_≡_, refl, sym, ap, _∙_}
 use mathlib.Core.Bool.{Bool, true, false, true≢false}
@@ -15,7 +16,7 @@ use Rattle.lent.proofs.Painted.{painted-none, painted-ext}
 use Rattle.lent.proofs.Taken.{box-facts, box-holds}
 use Rattle.picture.specs.declared.Size.{Size}
 use Rattle.rects.specs.declared.Rect.{Rect}
-use Rattle.rects.specs.Rects.{Rule, rectAtOf, by, nth, takenBy, taken, area, NoArea}
+use Rattle.rects.specs.Rects.{Rule, rectAtOf, by, nth, takenBy, taken, area, NoArea, Touched}
 
 -- ---- the loop over a list: the plane is painted by what the first n rectangles take
 
@@ -95,3 +96,52 @@ module _ (z : Size) (left top right bottom : ℕ) where
     λ none. ⊎-elim (λ l. ⊎-elim (λ t. absurd (true≢false (sym (area-holds _ _ (omega arith) t (omega arith) l) ∙ none (top / 2 * 2) (left / 2 * 2)))) inr (split (top / 2 * 2) _)) inl (split (left / 2 * 2) _),
     λ edges r c. never-true _ (λ e. ⊎-elim (λ h. omega (arith, area-facts r c e)) (λ h. omega (arith, area-facts r c e)) edges),
   )
+
+-- ---- whole blocks, and nothing past them
+
+-- of one side, from a to below b: what rounding adds lies in the block of a place that was there
+near : (a b n : ℕ) → a < b → a / 2 * 2 ≤ n → n < roundUp 2 b → (p : ℕ) × ((a ≤ p) × (p < b) × (p / 2 ≡ n / 2))
+near a b n some low high = from (decLt n a)
+  where
+    below : Dec (n < b) → (a ≤ n) → (p : ℕ) × ((a ≤ p) × (p < b) × (p / 2 ≡ n / 2))
+    below (yes l) g = (n, (g, l, refl))
+    below (no l) g = (b - 1, (omega arith, omega arith, omega arith))
+
+    from : Dec (n < a) → (p : ℕ) × ((a ≤ p) × (p < b) × (p / 2 ≡ n / 2))
+    from (yes l) = (a, (omega arith, some, omega arith))
+    from (no l) = below (decLt n b) (omega arith)
+
+module _ (z : Size) (left top right bottom : ℕ) (wide : left < min right (z .width)) (high : top < min bottom (z .height)) (r c : ℕ) where
+  -- THE BUG behind the grey tick: an odd edge widens to whole blocks, never past them
+  pub whole-blocks : (area z left top right bottom r c ≡ true) ↔ Touched z left top right bottom r c
+  whole-blocks = (
+    λ e. let f = area-facts z left top right bottom r c e in
+        let p = near top _ r high (f .0) (f .1) in
+        let q = near left _ c wide (f .2) (f .3) in
+        record {
+          row = p .0;
+          col = q .0;
+          from-top = p .1 .0;
+          above-bottom = p .1 .1;
+          from-left = q .1 .0;
+          before-right = q .1 .1;
+          same-row = p .1 .2;
+          same-col = q .1 .2;
+        },
+    λ t. area-holds z left top right bottom r c (omega (arith, t .from-top, t .same-row)) (omega (arith, t .above-bottom, t .same-row)) (omega (arith, t .from-left, t .same-col)) (omega (arith, t .before-right, t .same-col)),
+  )
+
+-- ---- reversed, and off the picture
+
+module _ (z : Size) (left top right bottom : ℕ) where
+  pub reversed-none : right < left → NoArea z left top right bottom
+  reversed-none h = inl (omega arith)
+
+  pub reversed-rows-none : bottom < top → NoArea z left top right bottom
+  reversed-rows-none h = inr (omega arith)
+
+  pub off-none : z .width < left → NoArea z left top right bottom
+  off-none h = inl (omega arith)
+
+  pub off-rows-none : z .height < top → NoArea z left top right bottom
+  off-rows-none h = inr (omega arith)

@@ -11,7 +11,9 @@
 --   area z left top right bottom r c              row r, column c lies in the widened area. It is empty unless left < right and
 --                               top < bottom after rounding (`area-empty`)
 --   NoArea z left top right bottom                the widened area is empty: its edges meet or cross
-use Prim.Native.Nat.{ℕ, _+_, _*_, _/_, min, _≤_}
+--   Touched z left top right bottom r c           the 2x2 block of row r, column c has a pixel of the rectangle, clipped to the picture
+use Prim.Native.Nat.{ℕ, _+_, _*_, _/_, min, _≤_, _<_}
+use mathlib.Core.Path.{_≡_}
 use mathlib.Core.Bool.{Bool}
 use mathlib.Core.Logic.{_⊎_}
 use mathlib.Core.List.{List}
@@ -65,3 +67,13 @@ abbrev pub NoArea : Size → ℕ → ℕ → ℕ → ℕ → Type 0
 NoArea z left top right bottom =
     (chromaBlockAreaOf z left top right bottom .right ≤ chromaBlockAreaOf z left top right bottom .left)
     ⊎ (chromaBlockAreaOf z left top right bottom .bottom ≤ chromaBlockAreaOf z left top right bottom .top)
+
+pub record Touched (z : Size) (left top right bottom r c : ℕ) : Type 0 where
+  pub row : ℕ
+  pub col : ℕ
+  pub from-top : top ≤ row
+  pub above-bottom : row < min bottom (z .height)
+  pub from-left : left ≤ col
+  pub before-right : col < min right (z .width)
+  pub same-row : row / 2 ≡ r / 2
+  pub same-col : col / 2 ≡ c / 2
