@@ -1,4 +1,4 @@
--- What the main view does and does not do, for a reader: empty areas, empty rectangles with an odd left edge, views that look alike, and
+-- What the main view does and does not do, for a reader: empty areas, empty rectangles with an odd left or top edge, views that look alike, and
 -- the one way in which the call ends. That order and repetition of a list have no effect, and that an empty list changes nothing, are
 -- `list-same` and `list-empty` of `rects`, at either rule.
 -- Assumes nothing.
@@ -25,7 +25,7 @@ use Rattle.rects.specs.Rects.{Rule, rectAtOf, nth, area, NoArea, taken}
 use Rattle.rects.specs.Number.{lentNumberOf}
 use Rattle.apply_main.specs.Main.{mainLuma, mainChroma, halved, lumaAfter, chromaAfter, mainBuffersOf, MainOutcome}
 use Rattle.rects.proofs.Rects.{taken-facts, list-one}
-use Rattle.apply_main.proofs.Main.{mainLuma-facts, mainChroma-facts, mainChroma-holds, chromaBelow}
+use Rattle.apply_main.proofs.Main.{mainLuma-facts, mainChroma-facts, mainChroma-holds, chromaBelow, chromaEnd}
 
 module _ (z : Size) (w : View) (left top right bottom : ℕ) where
   pub no-area-luma : NoArea z left top right bottom → (r c : ℕ) → mainLuma z w left top right bottom r c ≡ false
@@ -56,6 +56,18 @@ module _ (z : Size) (w : View) (left top bottom : ℕ) where
   -- and nothing else
   pub odd-empty-only : left % 2 ≡ 1 → left ≤ z .width → (r c : ℕ) → mainChroma z w left top left bottom r c ≡ true → (left ≤ c + 1) × (c ≤ left)
   odd-empty-only odd inside r c e = let f = mainChroma-facts z w left top left bottom r c e in (omega arith, omega arith)
+
+-- the same of an empty rectangle whose top edge is odd
+module _ (z : Size) (w : View) (left top right : ℕ) where
+  pub empty-rows-no-luma : (r c : ℕ) → mainLuma z w left top right top r c ≡ false
+  empty-rows-no-luma r c = never-true _ (λ e. let f = mainLuma-facts z w left top right top r c e in omega arith)
+
+  pub odd-empty-rows-chroma : top % 2 ≡ 1 → top ≤ z .height → (r c : ℕ) → top ≤ r + 1 → r ≤ top → r < w .height → left / 2 * 2 ≤ c → c < chromaEnd z w left top right top
+      → mainChroma z w left top right top r c ≡ true
+  odd-empty-rows-chroma odd inside r c t b v l h = mainChroma-holds z w left top right top r c (omega arith) (omega arith) (omega arith) (omega arith)
+
+  pub odd-empty-rows-only : top % 2 ≡ 1 → top ≤ z .height → (r c : ℕ) → mainChroma z w left top right top r c ≡ true → (top ≤ r + 1) × (r ≤ top)
+  odd-empty-rows-only odd inside r c e = let f = mainChroma-facts z w left top right top r c e in (omega arith, omega arith)
 
 -- ---- two accepted views of equal size that agree on the visible samples leave the same planes
 
