@@ -15,7 +15,7 @@ use Rattle.to_rgba.specs.declared.Rect.{Rect}
 use Rattle.to_rgba.specs.Pictured.{pictured, shifted}
 use Rattle.to_rgba_rows.specs.Rules.{pixelAt}
 use Rattle.to_rgba.specs.Picture.{acrossOf, downOf, toRgbaCountOf, toRgbaNumberOf, toRgbaOf}
-use Rattle.to_rgba_rows.specs.Fits.{RectFits}
+use Rattle.to_rgba_rows.specs.Fits.{PixelRowsFit}
 use Rattle.to_rgba.proofs.Pictured.{bytes-of, some-column, some-row, pictured-empty}
 use Rattle.to_rgba.proofs.Exactly.{rgba-0-exactly, rgba-6-exactly}
 
@@ -32,7 +32,7 @@ module _ (z : Size) (q : Rect) {n h : ℕ} (across : n ≡ acrossOf z q) (down :
     written y u v out = λ i. pictured (across i) (down i) (shifted (q .top) (q .left) (pixelAt (wide i) y u v)) out
 
     pub rows-fit : {rows number : ℕ} → rows ≡ rowsOf z → (ny nu nv nout : ℕ) → number ≡ toRgbaNumberOf z (4 * (n * h)) ny nu nv nout → number ≡ 0 → 0 < 4 * (n * h) → n < 65536
-        → RectFits nout ny nu nv stride rows (q .left) (q .top) n h
+        → PixelRowsFit nout ny nu nv stride rows (q .left) (q .top) n h
     rows-fit high ny nu nv nout is none some small =
         let free = rgba-0-exactly z (4 * (n * h)) ny nu nv nout .0 (sym is ∙ none) in
         let planes = planes-fit z ny nu nv (free .0) in

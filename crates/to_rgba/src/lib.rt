@@ -9,7 +9,7 @@ ghost use lib.ListN.{length};
 ghost use Rattle.colour.specs.Colour.{reverseOf};
 ghost use Rattle.lent.specs.Outcome.{Outcome, answerOf, lentAfter};
 ghost use Rattle.to_rgba_rows.specs.Rules.{pixelAt, viewPixelAt};
-ghost use Rattle.to_rgba_rows.specs.Fits.{RectFits};
+ghost use Rattle.to_rgba_rows.specs.Fits.{PixelRowsFit};
 ghost use Rattle.to_rgba.specs.Pictured.{pictured, shifted};
 ghost use Rattle.to_rgba.specs.Picture.{clippedOf, toRgbaCountOf, toRgbaNumberOf, toRgbaOf};
 ghost use Rattle.to_rgba.specs.View.{viewToRgbaCountOf, viewToRgbaNumberOf, viewToRgbaOf};
@@ -36,7 +36,7 @@ fn put_rows(
     n: usize,
     h: usize,
 )
-    requires { ⌜ RectFits (length (now out)) (length (now y)) (length (now u)) (length (now v)) stride rows left top n h ⌝ }
+    requires { ⌜ PixelRowsFit (length (now out)) (length (now y)) (length (now u)) (length (now v)) stride rows left top n h ⌝ }
     ensures { λ _. ⌜ now (out .exit) ≡ pictured n h (shifted top left (pixelAt stride (now (y .entry)) (now (u .entry)) (now (v .entry)))) (now (out .entry)) ⌝ }
 {
     let wide = 4 * n;

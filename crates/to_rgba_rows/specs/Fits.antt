@@ -1,7 +1,7 @@
 -- What the writers ask of their callers: no index is out of range, and no product wraps. In each, out, y, u and v are the buffers' lengths.
 --
 --   Inside, BlockInside    one pixel is read: as it stands, or with the block that filters it
---   RowFits, RectFits       a row of a picture, and its rows
+--   RowFits, PixelRowsFit       a row of a picture, and its rows
 --   ViewRowFits            a row of a view
 use mathlib.Core.Path.{_≡_}
 use Prim.Native.Nat.{ℕ, _+_, _*_, _/_, _%_, _≤_, _<_}
@@ -29,7 +29,7 @@ pub record RowFits (out y u v reach stride row left n : ℕ) : Type 0 where
   pub v-fits : row * stride + reach ≤ v
 
 -- a picture's planes, and h rows of n pixels from row `top` and column `left` on
-pub record RectFits (out y u v stride rows left top n h : ℕ) : Type 0 where
+pub record PixelRowsFit (out y u v stride rows left top n h : ℕ) : Type 0 where
   pub room : h * (4 * n) ≤ out
   pub some : 0 < n
   pub small : n < 65536

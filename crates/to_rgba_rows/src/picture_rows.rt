@@ -8,7 +8,7 @@ ghost use lib.ListN.{length};
 ghost use Rattle.lent.specs.Paint.{paint, every};
 ghost use Rattle.lent.specs.Pixels.{bytes, done};
 ghost use Rattle.to_rgba_rows.specs.Rules.{pixelAt, rowFrom};
-ghost use Rattle.to_rgba_rows.specs.Fits.{RowFits, RectFits};
+ghost use Rattle.to_rgba_rows.specs.Fits.{RowFits, PixelRowsFit};
 
 // An odd row: no pixel is filtered. What is said of a row holds where it is odd; in any other no index is out of range.
 fn odd_row(
@@ -103,7 +103,7 @@ pub fn put_row(
     left: usize,
     n: usize,
 )
-    requires { ⌜ RectFits (length (now out)) (length (now y)) (length (now u)) (length (now v)) stride rows left row n 1 ⌝ }
+    requires { ⌜ PixelRowsFit (length (now out)) (length (now y)) (length (now u)) (length (now v)) stride rows left row n 1 ⌝ }
     requires { ⌜ length (now out) ≡ 4 * n ⌝ }
     ensures { λ _. ⌜ now (out .exit) ≡ paint every (bytes (rowFrom left (pixelAt stride (now (y .entry)) (now (u .entry)) (now (v .entry)) row))) (now (out .entry)) ⌝ }
 {
