@@ -17,7 +17,7 @@ use Rattle.lent.proofs.Painted.{length-painted}
 use Rattle.lent.proofs.Refusal.{refusal-none}
 use Rattle.picture.specs.declared.Size.{Size}
 use Rattle.picture.specs.Sizes.{strideOf, rowsOf, planesShort, PlanesFit}
-use Rattle.picture.proofs.Sizes.{planes-fit}
+use Rattle.picture.proofs.Sizes.{fit-exactly}
 use Rattle.view.specs.View.{narrow, planeShort}
 use Rattle.view.proofs.Exactly.{narrow-none}
 use Rattle.layout.specs.declared.Layout.{Layout}
@@ -105,12 +105,6 @@ both-plainly z rects p m a q q′ =
 
 -- ---- 0, exactly when
 
-planes-long : (z : Size) (ny nu nv : ℕ) → PlanesFit z ny nu nv → planesShort z ny nu nv ≡ false
-unfolding planesShort
-planes-long z ny nu nv f =
-    nor (tooShort (strideOf z) (rowsOf z) ny || tooShort (strideOf z) (rowsOf z) nu) _ .1
-    (nor (tooShort (strideOf z) (rowsOf z) ny) _ .1 (le-ltb ny _ (f .y-fits), le-ltb nu _ (f .u-fits)), le-ltb nv _ (f .v-fits))
-
 view-long : (z : Size) (n : PlaneLengths) → Room (n .y) (n .u) (n .v) (strideOf z) (rowsOf z) → viewShort z n ≡ false
 unfolding viewShort
 view-long z n f =
@@ -143,17 +137,17 @@ module _ (z : Size) (rects : List ℕ) (p m a q : Planes) where
         wide = small .0;
         high = small .1;
         fours = fours-exactly (length rects) .0 (e .1);
-        picture = planes-fit z _ _ _ (f .0);
+        picture = fit-exactly z _ _ _ .0 (f .0);
         main = view-room z (lengthsOf m) (long .0);
         auxiliary = view-room z (lengthsOf a) (long .1);
-        earlier = planes-fit z _ _ _ (e .0);
+        earlier = fit-exactly z _ _ _ .0 (e .0);
       }
 
   accepted : Lent z rects p m a q → (split-number ≡ 0) × (earlierNumberOf z (lengthsOf q) (length rects) ≡ 0)
   accepted l = (
     split-0-exactly z (lengthsOf p) (lengthsOf m) (lengthsOf a) .1
-        (planes-long z _ _ _ (l .picture), (small-exactly z .1 (l .wide, l .high), nor (viewShort z (lengthsOf m)) _ .1 (view-long z (lengthsOf m) (l .main), view-long z (lengthsOf a) (l .auxiliary)))),
-    earlier-0-exactly z (lengthsOf q) (length rects) .1 (planes-long z _ _ _ (l .earlier), fours-exactly (length rects) .1 (l .fours)),
+        (fit-exactly z _ _ _ .1 (l .picture), (small-exactly z .1 (l .wide, l .high), nor (viewShort z (lengthsOf m)) _ .1 (view-long z (lengthsOf m) (l .main), view-long z (lengthsOf a) (l .auxiliary)))),
+    earlier-0-exactly z (lengthsOf q) (length rects) .1 (fit-exactly z _ _ _ .1 (l .earlier), fours-exactly (length rects) .1 (l .fours)),
   )
 
   pub through-0-exactly : (t : Layout) → (throughNumberOf t z rects p m a q ≡ 0) ↔ Lent z rects p m a q

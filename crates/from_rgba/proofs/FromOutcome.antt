@@ -1,11 +1,11 @@
 -- When `from_rgba` refuses, what it leaves where it does not, that its outcome is the only one, and what of the input has no part in it.
 -- Assumes nothing.
-use Prim.Native.Nat.{ℕ, _+_, _*_, _≤_}
+use Prim.Native.Nat.{ℕ, _+_, _*_, _<_, _≤_}
 use native.Mathlib.Nat.{add-zero}
 use native.Mathlib.Omega.{arith}
 use mathlib.Core.Path.{_≡_, refl, ap, _∙_}
 use mathlib.Core.Bool.{true, false, cond}
-use mathlib.Core.Logic.{_↔_}
+use mathlib.Core.Logic.{_↔_, _⊎_, Iff·trans, Iff·and, true-and, and-true}
 use mathlib.Core.List.{List, [], _∷_}
 use lib.ListN.{length, getD}
 use Rattle.lent.specs.Outcome.{Outcome, answerOf, lentAfter}
@@ -14,27 +14,34 @@ use Rattle.lent.specs.Refusal.{refusal}
 use Rattle.lent.specs.Samples.{sample}
 use Rattle.lent.specs.declared.Answer.{Answer}
 use Rattle.lent.proofs.Bools.{cond-ext}
+use Rattle.lent.proofs.Exactly.{below, not-below}
+use Rattle.picture.proofs.Sizes.{short-exactly, fit-exactly}
 use Rattle.lent.proofs.Refusal.{refusal-exactly, refusal-none}
 use Rattle.lent.proofs.Outcome.{outcome-unique}
 use Rattle.colour.specs.Colour.{forwardOf}
 use Rattle.colour.specs.declared.Yuv.{Yuv}
 use Rattle.from_rgba.specs.Averaged.{averaged}
 use Rattle.picture.specs.declared.Size.{Size}
-use Rattle.picture.specs.Sizes.{strideOf, rowsOf, planesShort, planeOf}
+use Rattle.picture.specs.Sizes.{strideOf, rowsOf, planesShort, PlanesFit, planeOf}
 use Rattle.from_rgba.specs.FromRgba.{convertedOf, inPicture, SamePixels, rgbaShort, fromNumberOf, fromBuffersOf}
 use Rattle.from_rgba.proofs.Blocks.{averaged-painted}
 use Rattle.from_rgba.specs.Rows.{colourAt}
 use Rattle.from_rgba.proofs.Padding.{inside-facts}
 
 module _ (z : Size) (n ny nu nv : ℕ) where
-  pub from-2-exactly : (fromNumberOf z n ny nu nv ≡ 2) ↔ (Unit {0} × (rgbaShort z n ≡ true))
-  from-2-exactly = refusal-exactly (rgbaShort z n) 2 ((planesShort z ny nu nv, 1) ∷ []) tt (λ e. omega arith) [] tt
+  pub from-2-exactly : (fromNumberOf z n ny nu nv ≡ 2) ↔ (n < z .width * z .height * 4)
+  from-2-exactly = Iff·trans (refusal-exactly (rgbaShort z n) 2 ((planesShort z ny nu nv, 1) ∷ []) tt (λ e. omega arith) [] tt) (Iff·trans true-and (below n _))
 
-  pub from-1-exactly : (fromNumberOf z n ny nu nv ≡ 1) ↔ (((rgbaShort z n ≡ false) × Unit {0}) × (planesShort z ny nu nv ≡ true))
-  from-1-exactly = refusal-exactly (planesShort z ny nu nv) 1 [] tt (λ e. omega arith) ((rgbaShort z n, 2) ∷ []) tt
+  pub from-1-exactly : (fromNumberOf z n ny nu nv ≡ 1)
+      ↔ ((z .width * z .height * 4 ≤ n) × (((ny < rowsOf z * strideOf z) ⊎ (nu < rowsOf z * strideOf z)) ⊎ (nv < rowsOf z * strideOf z)))
+  from-1-exactly =
+      Iff·trans (refusal-exactly (planesShort z ny nu nv) 1 [] tt (λ e. omega arith) ((rgbaShort z n, 2) ∷ []) tt)
+      (Iff·and (Iff·trans and-true (not-below n _)) (short-exactly z ny nu nv))
 
-  pub from-0-exactly : (fromNumberOf z n ny nu nv ≡ 0) ↔ ((rgbaShort z n ≡ false) × ((planesShort z ny nu nv ≡ false) × Unit {0}))
-  from-0-exactly = refusal-none ((rgbaShort z n, 2) ∷ (planesShort z ny nu nv, 1) ∷ []) tt
+  pub from-0-exactly : (fromNumberOf z n ny nu nv ≡ 0) ↔ ((z .width * z .height * 4 ≤ n) × PlanesFit z ny nu nv)
+  from-0-exactly =
+      Iff·trans (refusal-none ((rgbaShort z n, 2) ∷ (planesShort z ny nu nv, 1) ∷ []) tt)
+      (Iff·and (not-below n _) (Iff·trans and-true (fit-exactly z ny nu nv)))
 
 -- the call's input: the pixels, the size and the three buffers
 abbrev pub FromInput : Type 0

@@ -1,7 +1,7 @@
 -- Tests as facts, "exactly when": a comparison, and a test of two tests. Assumes nothing.
 use Prim.Native.Nat.{ℕ, _<_, _≤_}
 use mathlib.Core.Path.{_≡_, refl}
-use mathlib.Core.Bool.{Bool, true, false, _&&_, _||_, true≢false}
+use mathlib.Core.Bool.{Bool, true, false, _&&_, _||_, true≢false, false≢true}
 use mathlib.Core.Logic.{_↔_, _⊎_, inl, inr, ⊎-elim, Iff·trans, Iff·and}
 use lib.Dec.{ltb}
 use borrow.Author.Tests.{ltb-true, ltb-false, lt-ltb, le-ltb}
@@ -31,3 +31,8 @@ nor false t = (λ e. (refl, e), λ h. h .1)
 
 pub nor-exactly : (s t : Bool) {P Q : Type 0} → (s ≡ false) ↔ P → (t ≡ false) ↔ Q → ((s || t) ≡ false) ↔ (P × Q)
 nor-exactly s t f g = Iff·trans (nor s t) (Iff·and f g)
+
+-- a test of both fails where, if the first one holds, the second fails
+pub nand-exactly : (s t : Bool) {P : Type 0} → (t ≡ false) ↔ P → ((s && t) ≡ false) ↔ (s ≡ true → P)
+nand-exactly true t f = (λ e h. f .0 e, λ g. f .1 (g refl))
+nand-exactly false t f = (λ e h. absurd (false≢true h), λ g. refl)

@@ -1,9 +1,8 @@
 -- When `new` refuses, and that its outcome is the only one. Assumes nothing.
-use Prim.Native.Nat.{ℕ}
+use Prim.Native.Nat.{ℕ, _*_, _<_}
 use native.Mathlib.Omega.{arith}
 use mathlib.Core.Path.{_≡_}
-use mathlib.Core.Bool.{true, false}
-use mathlib.Core.Logic.{_↔_}
+use mathlib.Core.Logic.{_↔_, _⊎_, Iff·trans, true-and, and-true}
 use mathlib.Core.List.{List, [], _∷_}
 use lib.ListN.{length}
 use Rattle.lent.specs.Outcome.{Outcome, answerOf}
@@ -11,15 +10,16 @@ use Rattle.lent.specs.declared.Answer.{Answer}
 use Rattle.lent.proofs.Refusal.{refusal-exactly, refusal-none}
 use Rattle.lent.proofs.Outcome.{outcome-unique}
 use Rattle.picture.specs.declared.Size.{Size}
-use Rattle.picture.specs.Sizes.{planesShort}
+use Rattle.picture.specs.Sizes.{strideOf, rowsOf, planesShort, PlanesFit}
 use Rattle.picture.specs.New.{newNumberOf, newBuffersOf}
+use Rattle.picture.proofs.Sizes.{short-exactly, fit-exactly}
 
 module _ (z : Size) (ny nu nv : ℕ) where
-  pub new-1-exactly : (newNumberOf z ny nu nv ≡ 1) ↔ (Unit {0} × (planesShort z ny nu nv ≡ true))
-  new-1-exactly = refusal-exactly (planesShort z ny nu nv) 1 [] tt (λ e. omega arith) [] tt
+  pub new-1-exactly : (newNumberOf z ny nu nv ≡ 1) ↔ (((ny < rowsOf z * strideOf z) ⊎ (nu < rowsOf z * strideOf z)) ⊎ (nv < rowsOf z * strideOf z))
+  new-1-exactly = Iff·trans (refusal-exactly (planesShort z ny nu nv) 1 [] tt (λ e. omega arith) [] tt) (Iff·trans true-and (short-exactly z ny nu nv))
 
-  pub new-0-exactly : (newNumberOf z ny nu nv ≡ 0) ↔ ((planesShort z ny nu nv ≡ false) × Unit {0})
-  new-0-exactly = refusal-none ((planesShort z ny nu nv, 1) ∷ []) tt
+  pub new-0-exactly : (newNumberOf z ny nu nv ≡ 0) ↔ PlanesFit z ny nu nv
+  new-0-exactly = Iff·trans (refusal-none ((planesShort z ny nu nv, 1) ∷ []) tt) (Iff·trans and-true (fit-exactly z ny nu nv))
 
 -- the call's input: the size and the three buffers
 abbrev pub NewInput : Type 0

@@ -11,7 +11,7 @@ use lib.Dec.{ltb, eqb}
 use lib.ListN.{length}
 use borrow.Author.Tests.{ltb-true, ltb-false, lt-ltb, le-ltb, eq-eqb, ne-eqb, eqb-true, eqb-false}
 use Rattle.lent.specs.Refusal.{refusal}
-use Rattle.lent.proofs.Exactly.{and-exactly, or-exactly, nor}
+use Rattle.lent.proofs.Exactly.{and-exactly, or-exactly, nor, nor-exactly, nand-exactly}
 use Rattle.lent.proofs.Outcome.{outcome-unique}
 use Rattle.lent.specs.Outcome.{Outcome}
 use Rattle.lent.proofs.Refusal.{refusal-exactly, refusal-none}
@@ -44,6 +44,14 @@ module _ (s : List ℕ) where
       one is a e =
           and-exactly is (pastEnd s a e) (λ h. h, λ h. h)
           (λ h. ltb-true e _ (sym (pastEnd-is s a e) ∙ h), λ h. pastEnd-is s a e ∙ lt-ltb e _ h)
+
+  -- no stream that is carried runs past its end
+  pub inside-exactly : (streamsPast s ≡ false)
+      ↔ ((carriesLuma (kindOf s) ≡ true → 4 + 4 + 10 * u32At s 4 ≤ lumaEnd s) × (carriesChroma (kindOf s) ≡ true → chromaStart s + 4 + 10 * u32At s (chromaStart s) ≤ length s))
+  inside-exactly = nor-exactly _ _ (one (carriesLuma (kindOf s)) 4 (lumaEnd s)) (one (carriesChroma (kindOf s)) (chromaStart s) (length s))
+    where
+      one : (is : Bool) (a e : ℕ) → ((is && pastEnd s a e) ≡ false) ↔ (is ≡ true → a + 4 + 10 * u32At s a ≤ e)
+      one is a e = nand-exactly is (pastEnd s a e) (λ h. ltb-false e _ (sym (pastEnd-is s a e) ∙ h), λ h. pastEnd-is s a e ∙ le-ltb e _ h)
 
   pub read-0-exactly : (readNumberOf s ≡ 0) ↔ (Good s × (streamsPast s ≡ false))
   unfolding readNumberOf

@@ -7,8 +7,8 @@ use mathlib.Core.Bool.{Bool, true, false, not, true≢false, false≢true}
 use mathlib.Core.Logic.{_↔_, _⊎_, Iff·trans}
 use mathlib.Core.List.{[], _∷_}
 use lib.Dec.{ltb, leb, eqb}
-use borrow.Author.Tests.{ltb-true, ltb-false, lt-ltb, le-ltb, leb-true, le-leb, eqb-true, eqb-false, eq-eqb, ne-eqb}
-use Rattle.lent.proofs.Exactly.{and-exactly, or-exactly, nor-exactly}
+use borrow.Author.Tests.{ltb-true, ltb-false, lt-ltb, le-ltb, leb-true, le-leb, eqb-true, eqb-false, eq-eqb, ne-eqb, leb-false, lt-leb}
+use Rattle.lent.proofs.Exactly.{and-exactly, or-exactly, nor-exactly, nand-exactly}
 use Rattle.lent.proofs.Refusal.{refusal-exactly}
 use Rattle.wire_read.specs.Reading.{carriesLuma, carriesChroma}
 use Rattle.wire_write.specs.declared.number.StreamSizes.{StreamSizes}
@@ -42,6 +42,11 @@ module _ (kind : ℕ) (l c : StreamSizes) where
   pub lists-exactly : (listsWrong kind l c ≡ true) ↔ (((carriesLuma kind ≡ true) × (uneven l ≡ true)) ⊎ ((carriesChroma kind ≡ true) × (uneven c ≡ true)))
   lists-exactly = or-exactly _ _ (and-exactly (carriesLuma kind) (uneven l) (λ e. e, λ e. e) (λ e. e, λ e. e)) (and-exactly (carriesChroma kind) (uneven c) (λ e. e, λ e. e) (λ e. e, λ e. e))
 
+  -- every list that is carried is in fours, with one pair for each rectangle
+  pub lists-right-exactly : (listsWrong kind l c ≡ false)
+      ↔ ((carriesLuma kind ≡ true → (l .rects % 4 ≡ 0) × (l .pairs ≡ 2 * (l .rects / 4))) × (carriesChroma kind ≡ true → (c .rects % 4 ≡ 0) × (c .pairs ≡ 2 * (c .rects / 4))))
+  lists-right-exactly = nor-exactly _ _ (nand-exactly (carriesLuma kind) (uneven l) (even-exactly l)) (nand-exactly (carriesChroma kind) (uneven c) (even-exactly c))
+
   pub too-long-exactly : (tooLong kind l c ≡ true)
       ↔ ((2 ^ 30 ≤ bytesFor (firstCarried kind l c))
       ⊎ (((carriesLuma kind ≡ true) × (2 ^ 32 ≤ l .rects / 4)) ⊎ ((carriesChroma kind ≡ true) × (2 ^ 32 ≤ c .rects / 4))))
@@ -51,6 +56,16 @@ module _ (kind : ℕ) (l c : StreamSizes) where
     where
       at-least : (a b : ℕ) → (leb a b ≡ true) ↔ (a ≤ b)
       at-least a b = (leb-true a b, le-leb a b)
+
+  -- the first stream carried is short enough, and every count that is carried fits
+  pub short-enough-exactly : (tooLong kind l c ≡ false)
+      ↔ ((bytesFor (firstCarried kind l c) < 2 ^ 30) × ((carriesLuma kind ≡ true → l .rects / 4 < 2 ^ 32) × (carriesChroma kind ≡ true → c .rects / 4 < 2 ^ 32)))
+  short-enough-exactly =
+      nor-exactly _ _ (not-at-least (2 ^ 30) (bytesFor (firstCarried kind l c)))
+      (nor-exactly _ _ (nand-exactly (carriesLuma kind) (countLarge l) (not-at-least (2 ^ 32) (l .rects / 4))) (nand-exactly (carriesChroma kind) (countLarge c) (not-at-least (2 ^ 32) (c .rects / 4))))
+    where
+      not-at-least : (a b : ℕ) → (leb a b ≡ false) ↔ (b < a)
+      not-at-least a b = (leb-false a b, lt-leb a b)
 
 -- ---- the numbers
 

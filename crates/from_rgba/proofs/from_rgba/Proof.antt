@@ -5,13 +5,11 @@ use Prim.Native.Nat.{_*_, _≤_}
 use native.Mathlib.Omega.{arith}
 use mathlib.Core.Path.{_≡_, sym, _∙_}
 use lib.ListN.{length}
-use borrow.Author.Tests.{ltb-false}
 use Rattle.from_rgba.specs.Averaged.{averaged}
 use Rattle.picture.specs.Sizes.{strideOf, rowsOf, PlanesFit, planeOf}
 use Rattle.from_rgba.specs.FromRgba.{lumaPlane, chromaUPlane, chromaVPlane, fromNumberOf, fromBuffersOf}
 use Rattle.picture.proofs.Calls.{refused, done}
 use Rattle.from_rgba.proofs.FromOutcome.{from-0-exactly, plane-averaged}
-use Rattle.picture.proofs.Sizes.{planes-fit}
 use borrow.Author.Needs.{needs}
 use Rattle.from_rgba.proofs.from_rgba.Statement.{statement}
 use Rattle.from_rgba.proofs.from_rgba.Tie as tie
@@ -32,8 +30,7 @@ number-0 c = sym (c .before .from-number .ensures) ∙ c .if1 .left
 fits : (c : tie.Else1) → let a = c .before .before .before .before .before .before .args in (a .size .width * a .size .height * 4 ≤ length (a .rgba .now)) × PlanesFit (a .size) (length (a .y .now)) (length (a .u .now)) (length (a .v .now))
 fits c =
     let a = c .before .before .before .before .before .before .args in
-    let f = from-0-exactly (a .size) (length (a .rgba .now)) (length (a .y .now)) (length (a .u .now)) (length (a .v .now)) .0 (number-0 c) in
-    (ltb-false _ _ (f .0), planes-fit (a .size) _ _ _ (f .1 .0))
+    from-0-exactly (a .size) (length (a .rgba .now)) (length (a .y .now)) (length (a .u .now)) (length (a .v .now)) .0 (number-0 c)
 
 -- stride and rows are the picture's
 sides : (c : tie.After-rows) → let z = c .before .before .before .before .before .before .before .before .before .before .before .before .before .before .before .before .before .before .args .size in (c .before .stride .result ≡ strideOf z) × (c .rows .result ≡ rowsOf z)

@@ -11,7 +11,6 @@ use Rattle.picture.specs.Sizes.{planeOf}
 use Rattle.picture.specs.New.{newNumberOf, newBuffersOf}
 use Rattle.picture.proofs.Calls.{refused, done}
 use Rattle.picture.proofs.NewOutcome.{new-0-exactly}
-use Rattle.picture.proofs.Sizes.{planes-fit}
 use Rattle.picture.proofs.new.Statement.{statement}
 use Rattle.picture.proofs.new.Tie as tie
 
@@ -31,7 +30,7 @@ number-0 c = sym (c .before .new-number .ensures) ∙ c .if1 .left
 fits : (c : tie.After-rows) → let a = c .before .before .before .before .before .before .before .args in let n = c .rows .result * c .before .stride .result in (n ≤ length (a .y .now)) × (n ≤ length (a .u .now)) × (n ≤ length (a .v .now))
 fits c =
     let a = c .before .before .before .before .before .before .before .args in
-    let f = planes-fit (a .size) (length (a .y .now)) (length (a .u .now)) (length (a .v .now)) (new-0-exactly _ _ _ _ .0 (number-0 (c .before .before)) .0) in
+    let f = new-0-exactly (a .size) (length (a .y .now)) (length (a .u .now)) (length (a .v .now)) .0 (number-0 (c .before .before)) in
     rw (c .rows .ensures .0, c .before .stride .ensures .0) (f .y-fits, f .u-fits, f .v-fits)
 
 -- and what is filled is the picture's plane
