@@ -16,7 +16,7 @@ use Rattle.picture.specs.Sizes.{strideOf, rowsOf}
 use Rattle.view.specs.declared.View.{View}
 use Rattle.layout.specs.declared.Chroma.{Chroma}
 use Rattle.layout.specs.declared.Chroma.the-variants.{CU, CV}
-use Rattle.layout.specs.Maps.{Part, PY, PU, PV, Place, Spot, Maps, place, spot, partOf}
+use Rattle.layout.specs.Maps.{Part, PY, PU, PV, Place, Spot, Maps, place, spot, fromMain, partOf}
 use Rattle.layout.specs.Exists.{side, present, leftOut}
 use Rattle.rects.specs.Rects.{taken}
 use Rattle.apply_main.specs.Main.{mainLuma}
@@ -41,8 +41,8 @@ atSpot v s = v (s .part) (s .row) (s .col)
 -- what the main view of a picture holds, and the auxiliary view
 abbrev pub mainView : Picture → ViewSamples
 mainView p PY r c = p .luma r c
-mainView p PU r c = p .chroma CU (2 * r) (2 * c)
-mainView p PV r c = p .chroma CV (2 * r) (2 * c)
+mainView p PU r c = atPlace p (fromMain CU r c)
+mainView p PV r c = atPlace p (fromMain CV r c)
 
 abbrev pub auxiliaryView : Maps → Picture → ViewSamples
 auxiliaryView m p q r c = atPlace p (m .place (spot q r c))

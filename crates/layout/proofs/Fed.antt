@@ -6,7 +6,7 @@ use native.Mathlib.Omega.{arith}
 use mathlib.Core.Path.{_≡_, refl, sym, ap, _∙_}
 use mathlib.Core.Bool.{true}
 use mathlib.Core.Logic.{_⊎_, ⊎-elim}
-use Rattle.layout.specs.Maps.{Maps, maps, v2WidthOf, Part, PY, PU, PV, Place, place, spot, partOf, shift, into, upperOf, toV1, fromV1, toV2, fromV2, mapsV1, mapsV2}
+use Rattle.layout.specs.Maps.{Maps, maps, v2WidthOf, Part, PY, PU, PV, Place, place, spot, toMain, partOf, shift, into, upperOf, toV1, fromV1, toV2, fromV2, mapsV1, mapsV2}
 use Rattle.layout.specs.Exists.{present, carried}
 use Rattle.layout.specs.Fed.{Fed, FedOnce, BlockFed, besideOf, belowOf, acrossOf}
 use Rattle.layout.specs.declared.Chroma.{Chroma}
@@ -177,6 +177,8 @@ module _ (m : Maps) (W H : ℕ) (f : Fed m W H) where
         beside-below = λ e. let same : 2 * i ≡ 2 * i + 1 = ap (λ (l : Place). l .row) (exactly _ _ a b e) in omega arith;
         beside-across = λ e. let same : 2 * i ≡ 2 * i + 1 = ap (λ (l : Place). l .row) (exactly _ _ a c e) in omega arith;
         below-across = λ e. let same : 2 * j ≡ 2 * j + 1 = ap (λ (l : Place). l .col) (exactly _ _ b c e) in omega arith;
+        main = present-holds W H (toMain k (2 * i) (2 * j)) (rw side-chroma (omega arith)) (rw side-chroma (omega arith));
+        main-holds = place-path refl (omega arith) (omega arith);
         even-even = λ s p e. ⊎-elim (λ o. omega arith) (λ o. omega arith) (leftOut-facts (2 * i) (2 * j) (carried-facts W H (place k (2 * i) (2 * j)) (rw e at (f .returns s p)) .2));
       }
 

@@ -3,12 +3,12 @@
 --   Fed m W H         the two maps undo each other: every place that the auxiliary view carries lives at a spot of it which holds that
 --                     place, and every spot holds a place that it carries and that lives there
 --   BlockFed m W H k i j   of the chroma plane k, the 2x2 block at rows 2i, 2i+1 and columns 2j, 2j+1: three samples live in the
---                     auxiliary view, at three spots, and no spot holds the even-even one
+--                     auxiliary view, at three spots, and no spot of it holds the even-even one, which lives in the main view
 --   FedOnce m W H     that of every block, and of every spot that exactly one place lives there
 use Prim.Native.Nat.{ℕ, _+_, _*_, _<_}
 use mathlib.Core.Path.{_≡_}
 use mathlib.Core.Bool.{true}
-use Rattle.layout.specs.Maps.{Place, Spot, place, Maps}
+use Rattle.layout.specs.Maps.{Place, Spot, place, toMain, fromMain, Maps}
 use Rattle.layout.specs.Exists.{present, carried}
 use Rattle.layout.specs.declared.Chroma.{Chroma}
 
@@ -35,6 +35,8 @@ pub record BlockFed (m : Maps) (W H : ℕ) (k : Chroma) (i j : ℕ) : Type 0 whe
   pub beside-below : m .spot (besideOf k i j) ≡ m .spot (belowOf k i j) → ⊥
   pub beside-across : m .spot (besideOf k i j) ≡ m .spot (acrossOf k i j) → ⊥
   pub below-across : m .spot (belowOf k i j) ≡ m .spot (acrossOf k i j) → ⊥
+  pub main : present W H (toMain k (2 * i) (2 * j)) ≡ true
+  pub main-holds : fromMain k (toMain k (2 * i) (2 * j) .row) (toMain k (2 * i) (2 * j) .col) ≡ place k (2 * i) (2 * j)
   pub even-even : (s : Spot) → present W H s ≡ true → m .place s ≡ place k (2 * i) (2 * j) → ⊥
 
 pub record FedOnce (m : Maps) (W H : ℕ) : Type 0 where

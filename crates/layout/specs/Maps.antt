@@ -9,6 +9,7 @@
 --   halfOf n j         whose half j is in
 --   into n j           how far it is in that half
 --   upperOf r          the document's n, for an odd row r
+--   toMain, fromMain   where the even-even sample of a block lives in the main view, and whose sample a spot of its chroma holds
 --   toV1, toV2 W       where a place lives in the auxiliary view: an apply call reads there
 --   fromV1, fromV2 W   whose sample a spot of the auxiliary view holds: a split writes it there
 --   Maps               the two of a layout; `maps t vw` those of the layout t, for a view of width vw
@@ -58,6 +59,13 @@ into n j = j - shift (halfOf n j) n
 -- "n = row - row%16 + (row%16)/2"
 abbrev pub upperOf : ℕ → ℕ
 upperOf r = r - r % 16 + r % 16 / 2
+
+-- the main view: "from U and V at row/2, col/2", and split "the even-even chroma"
+abbrev pub toMain : Chroma → ℕ → ℕ → Spot
+toMain k r c = spot (partOf k) (r / 2) (c / 2)
+
+abbrev pub fromMain : Chroma → ℕ → ℕ → Place
+fromMain k r c = place k (2 * r) (2 * c)
 
 -- V1 (3.3.8.3.2): "an odd row takes U from luma row n .. and V from row n+8, at col .. An even row takes odd columns from U and V at
 -- row/2, col/2"
