@@ -85,6 +85,35 @@ def each_fed_once(to, back):
     assert len(homes) == 16 * 16 + 4 * 8 * 8
 
 
+# --- The rules: rects/specs/Rects.antt, apply_main/specs/Main.antt. A rectangle is left, top, right, bottom; right and bottom are exclusive.
+
+Rect = namedtuple('Rect', 'left top right bottom')
+Size = namedtuple('Size', 'width height')
+
+
+def round_up(n, m):
+    return (m + n - 1) // n * n
+
+
+def chroma_block_area_of(size, rect):
+    return Rect(rect.left // 2 * 2, rect.top // 2 * 2, round_up(2, min(rect.right, size.width)), round_up(2, min(rect.bottom, size.height)))
+
+
+def wrong_area_of(size, rect):
+    """The error that tempts: an odd left edge is rounded up."""
+    return chroma_block_area_of(size, rect)._replace(left=round_up(2, rect.left))
+
+
+def main_luma(size, view, rect, area):
+    """The rows and columns of luma that a rectangle takes from a main view."""
+    bottom, right = min(rect.bottom, size.height, view.height), min(rect.right, area.right, view.width)
+    return {(r, c) for r in range(rect.top, bottom) for c in range(rect.left, right)}
+
+
+def main_chroma(view, area):
+    return {(r, c) for r in range(area.top, min(area.bottom, view.height)) for c in range(area.left, min(area.right, view.width))}
+
+
 # --- The pen: each call answers a piece of SVG.
 
 def text(x, y, words, size=13, anchor='start', **more):
@@ -244,9 +273,113 @@ def draw_layout(layout):
     return picture(low + 8 * CELL + 190, f'Layout {layout.name}: where a macroblock’s chroma travels', description, out)
 
 
+# --- widening.svg: which samples a rectangle takes.
+
+PADDED = Size(16, 16)
+
+
+def span(numbers):
+    """The numbers of a set without gaps, in words."""
+    first, last = min(numbers), max(numbers)
+    assert sorted(numbers) == list(range(first, last + 1))
+    return f'{first}' if first == last else f'{first} and {last}' if last == first + 1 else f'{first} to {last}'
+
+
+def taken_words(name, taken):
+    if not taken:
+        return f'{name}: none.'
+    return f'{name}: columns {span({c for _, c in taken})}, rows {span({r for r, _ in taken})}.'
+
+
+def widening_forms():
+    def form(name, *pieces):
+        return f'<g id="{name}">' + ''.join(pieces) + '</g>'
+
+    def mark(x, y, word, **more):
+        return text(x, y, word, 10, 'middle', **more)
+
+    return '<defs>' + '\n'.join([
+        hatch('padding', '#bbbbbb', 5, 1), hatch('stale', RED, 5, 2, -45),
+        form('pixel', box(0, 0, CELL, CELL, '#ffffff', '#cccccc', 0.7)),
+        form('outside', box(0, 0, CELL, CELL, 'url(#padding)', '#cccccc', 0.7)),
+        form('chroma', box(0, 0, CELL, CELL, ORANGE, '#ffffff', 0.7), mark(7, 12, 'c')),
+        form('old', box(0, 0, CELL, CELL, '#ffffff', '#cccccc', 0.7), box(0, 0, CELL, CELL, 'url(#stale)')),
+        form('luma', f'<circle cx="16" cy="16" r="6.8" fill="{SKY}" stroke="{INK}" stroke-width="0.8"/>', mark(16, 19.6, 'Y'))]) + '</defs>'
+
+
+def blocks(x, y, columns, rows):
+    """The edges of the 2x2 blocks."""
+    way = ''.join(f'M{x + j * CELL} {y}v{rows * CELL}' for j in range(0, columns + 1, 2))
+    return path(way + ''.join(f'M{x} {y + i * CELL}h{columns * CELL}' for i in range(0, rows + 1, 2)), GREY, 1.3)
+
+
+def panel(x, y, shown, size, rect, area):
+    """The first columns and rows of a padded picture, and what a rectangle takes there by a widened area."""
+    luma, chroma = main_luma(size, PADDED, rect, area), main_chroma(PADDED, area)
+    lost = main_chroma(PADDED, chroma_block_area_of(size, rect)) - chroma
+    out = []
+    for r, c in ((r, c) for r in range(shown.height) for c in range(shown.width)):
+        under = 'chroma' if (r, c) in chroma else 'old' if (r, c) in lost else 'pixel' if r < size.height and c < size.width else 'outside'
+        out += [used(name, x + c * CELL, y + r * CELL) for name in [under] + ['luma'] * ((r, c) in luma)]
+    out.append(blocks(x, y, shown.width, shown.height))
+    out.append(path(f'M{x + size.width * CELL} {y}v{size.height * CELL}H{x}', INK, 1.6, stroke_dasharray='5 3'))
+    wide, high = (rect.right - rect.left) * CELL, (rect.bottom - rect.top) * CELL
+    out.append(path(f'M{x + rect.left * CELL} {y + rect.top * CELL}h{wide}v{high}h{-wide}z', INK, 3.5))
+    out += [text(x - 5, y + r * CELL + 17, r, 10, 'end', fill='#444444') for r in range(shown.height)]
+    out += [text(x + c * CELL + CELL / 2, y - 4, c, 10, 'middle', fill='#444444') for c in range(shown.width)]
+    return out
+
+
+def area_words(size, rect, area):
+    """What the four edges become, by a widening."""
+    return [f'({", ".join(map(str, rect))}) in {size.width} x {size.height}:', f'left {rect.left} → {area.left}, top {rect.top} → {area.top},', f'right {rect.right} → {area.right}, bottom {rect.bottom} → {area.bottom}.']
+
+
+def widening_legend(y):
+    items = [(['chroma'], 'chroma taken, a whole block or none'), (['pixel', 'luma'], 'luma taken, the rectangle’s own pixels'),
+             (['old'], 'wrong: a block that keeps its old chroma'), (['outside'], 'padding (the planes go on to 16 x 16)')]
+    out = []
+    for i, (names, words) in enumerate(items):
+        x, row = LEFT + 450 * (i % 2), y + 34 * (i // 2)
+        out += [used(name, x, row) for name in names] + [text(x + 36, row + 18, words)]
+    out += [path(f'M{LEFT} {y + 82}h{CELL}', INK, 3.5), text(LEFT + 36, y + 86, 'the rectangle'),
+            path(f'M{LEFT + 450} {y + 82}h{CELL}', INK, 1.6, stroke_dasharray='5 3'), text(LEFT + 486, y + 86, 'the picture’s edge')]
+    return out
+
+
+def panel_words(size, rect, area):
+    """What the edges become, what is taken, and what is lost."""
+    right_area = chroma_block_area_of(size, rect)
+    chroma, luma = main_chroma(PADDED, area), main_luma(size, PADDED, rect, area)
+    words = area_words(size, rect, area) + [taken_words('Chroma', chroma), taken_words('Luma', luma)]
+    if area != right_area:
+        lost = main_chroma(PADDED, right_area) - chroma
+        words += [f'Columns {span({c for _, c in lost})} keep their old chroma:', f'a tick in column {rect.left} stays grey.']
+    elif not luma:
+        even = rect._replace(left=area.left, right=area.left)
+        assert not main_chroma(PADDED, chroma_block_area_of(size, even))
+        words += ['But with even edges,', f'({", ".join(map(str, even))}), it takes nothing.']
+    return words
+
+
+def draw_widening():
+    odd, empty = (Size(9, 7), Rect(3, 1, 6, 5)), (Size(5, 5), Rect(5, 0, 5, 4))
+    panels = [('The rule', Size(10, 8), *odd, chroma_block_area_of), ('Wrong: left rounded up', Size(10, 8), *odd, wrong_area_of),
+              ('An empty rectangle', Size(8, 8), *empty, chroma_block_area_of)]
+    out, said, x, low = [widening_forms()], [], LEFT, 84 + 8 * CELL
+    for name, shown, size, rect, area_of in panels:
+        area = area_of(size, rect)
+        words = panel_words(size, rect, area)
+        out += [text(x, 58, name, 14, font_weight='bold'), *panel(x, 84, shown, size, rect, area), lines(x, low + 24, words, 12)]
+        said.append(f'{name}: ' + ' '.join(words))
+        x += shown.width * CELL + 52
+    out += widening_legend(low + 162)
+    return picture(low + 268, 'Widening: chroma is taken in whole 2x2 blocks', ' '.join(said), out)
+
+
 # --- The files.
 
-DRAWINGS = {'v1.svg': lambda: draw_layout(V1), 'v2.svg': lambda: draw_layout(V2)}
+DRAWINGS = {'v1.svg': lambda: draw_layout(V1), 'v2.svg': lambda: draw_layout(V2), 'widening.svg': draw_widening}
 
 
 def main():
