@@ -17,7 +17,7 @@ WIDE = 912
 
 # Colours that are told apart with any colour vision (Okabe and Ito); letters and hatches say the same again.
 YELLOW, SKY, ORANGE, PURPLE, GREEN, RED = '#f3e96b', '#7cc4ee', '#eeb43f', '#d795bb', '#5fc0a3', '#d55e00'
-PALE, GREY, INK = '#efefef', '#8a8a8a', '#111111'
+BLUE, PALE, GREY, INK = '#0072b2', '#efefef', '#8a8a8a', '#111111'
 
 
 # --- The rules: layout/specs/Maps.antt, Exists.antt. A place (k, r, c) is a chroma sample of the picture, k is U or V; a spot (part, r, c)
@@ -114,12 +114,63 @@ def main_chroma(view, area):
     return {(r, c) for r in range(area.top, min(area.bottom, view.height)) for c in range(area.left, min(area.right, view.width))}
 
 
+# --- The rules: wire_fields/specs/Fields.antt, wire_read/specs/Format.antt, wire_write/specs/Writing.antt.
+
+Parts = namedtuple('Parts', 'count rects pairs h264')
+
+
+def u16_bytes(n):
+    return [n % 256, n // 256 % 256]
+
+
+def u32_bytes(n):
+    return u16_bytes(n) + u16_bytes(n // 65536)
+
+
+def u16_at(s, at):
+    return s[at] + s[at + 1] * 256
+
+
+def u32_at(s, at):
+    return u16_at(s, at) + u16_at(s, at + 2) * 65536
+
+
+def info_of(kind, size):
+    return kind % 4 * 2 ** 30 + size % 2 ** 30
+
+
+def parts_from(rects, pairs, h264):
+    return Parts(u32_bytes(len(rects) // 4), [byte for n in rects for byte in u16_bytes(n)], pairs, h264)
+
+
+def places_at(start, parts):
+    """Where the parts of a stream stand that starts here, and where it ends."""
+    places = [start]
+    for part in parts:
+        places.append(places[-1] + len(part))
+    return places
+
+
+# --- The rules: colour/specs/Colour.antt, with a the even-even sample of a 2x2 block and s the sum of the other three.
+
+def reversed_of(a, s):
+    return max(0, min(255, 4 * a - s))
+
+
+def filtered_of(a, s):
+    return a if abs(reversed_of(a, s) - a) < 30 else reversed_of(a, s)
+
+
 # --- The pen: each call answers a piece of SVG.
 
+def said_of(more):
+    """Further attributes, as SVG writes them."""
+    return ''.join(f' {name.replace("_", "-")}="{value}"' for name, value in more.items())
+
+
 def text(x, y, words, size=13, anchor='start', **more):
-    extra = ''.join(f' {name.replace("_", "-")}="{value}"' for name, value in more.items())
     anchored = '' if anchor == 'start' else f' text-anchor="{anchor}"'
-    return f'<text x="{x:g}" y="{y:g}" font-size="{size:g}"{anchored}{extra}>{escape(str(words))}</text>'
+    return f'<text x="{x:g}" y="{y:g}" font-size="{size:g}"{anchored}{said_of(more)}>{escape(str(words))}</text>'
 
 
 def lines(x, y, all_words, size=13, step=18, **more):
@@ -127,14 +178,12 @@ def lines(x, y, all_words, size=13, step=18, **more):
 
 
 def box(x, y, wide, high, fill='none', stroke='none', thick=1, **more):
-    extra = ''.join(f' {name.replace("_", "-")}="{value}"' for name, value in more.items())
     return (f'<rect x="{x:g}" y="{y:g}" width="{wide:g}" height="{high:g}" fill="{fill}"'
-            + (f' stroke="{stroke}" stroke-width="{thick:g}"' if stroke != 'none' else '') + extra + '/>')
+            + (f' stroke="{stroke}" stroke-width="{thick:g}"' if stroke != 'none' else '') + said_of(more) + '/>')
 
 
 def path(way, stroke=INK, thick=1, fill='none', **more):
-    extra = ''.join(f' {name.replace("_", "-")}="{value}"' for name, value in more.items())
-    return f'<path d="{way}" fill="{fill}" stroke="{stroke}" stroke-width="{thick:g}"{extra}/>'
+    return f'<path d="{way}" fill="{fill}" stroke="{stroke}" stroke-width="{thick:g}"{said_of(more)}/>'
 
 
 def hatch(name, colour, gap=6, thick=1.2, turned=45):
@@ -261,7 +310,8 @@ def draw_layout(layout):
            text(RIGHT, 60, 'Auxiliary view: Y, 16 x 16', 14, font_weight='bold'),
            grid(LEFT, top, 16, lambda r, c: (way_of(layout, r, c), (r, c)), range(16), range(16)),
            plane(RIGHT, top, 16, layout, 'Y', layout.back), ''.join(small),
-           lines(LEFT + 72, middle + 14, ['Main view: Y, 16 x 16 (drawn small): the luma, as it is.', 'Beside and above a plane of a view stand the rows and',
+           lines(LEFT + 72, middle + 14, ['Main view: Y, 16 x 16 (drawn small): the luma, as it is.',
+                                          'Beside and above a plane of a view stand the rows and',
                                           'columns that its samples have in the picture.'], 12),
            lines(RIGHT, middle + 14, layout.rule, 12)]
     for view, x, back in (('Main', LEFT, from_main), ('Auxiliary', RIGHT, layout.back)):
@@ -332,7 +382,9 @@ def panel(x, y, shown, size, rect, area):
 
 def area_words(size, rect, area):
     """What the four edges become, by a widening."""
-    return [f'({", ".join(map(str, rect))}) in {size.width} x {size.height}:', f'left {rect.left} → {area.left}, top {rect.top} → {area.top},', f'right {rect.right} → {area.right}, bottom {rect.bottom} → {area.bottom}.']
+    return [f'({", ".join(map(str, rect))}) in {size.width} x {size.height}:',
+            f'left {rect.left} → {area.left}, top {rect.top} → {area.top},',
+            f'right {rect.right} → {area.right}, bottom {rect.bottom} → {area.bottom}.']
 
 
 def widening_legend(y):
@@ -377,9 +429,195 @@ def draw_widening():
     return picture(low + 268, 'Widening: chroma is taken in whole 2x2 blocks', ' '.join(said), out)
 
 
+# --- payload.svg: the bytes of an AVC444 payload of kind 0, and what the other kinds carry.
+
+BYTE = 27
+LUMA_STREAM = parts_from([3, 1, 6, 5, 0, 0, 400, 2], [150, 100, 22, 90], [0, 0, 1, 103])
+CHROMA_STREAM = parts_from([3, 1, 6, 5], [22, 100], [0, 0, 1, 103, 66, 0])
+PART_COLOURS = {'count': SKY, 'rects': ORANGE, 'pairs': PURPLE, 'h264': GREEN}
+
+
+def brace(x, y, wide, words, size=12):
+    """A bracket below some cells, and its words."""
+    return path(f'M{x + 2:g} {y:g}v5h{wide - 4:g}v-5', '#444444') + text(x + wide / 2, y + 19, words, size, 'middle')
+
+
+def ruler(x, y, s, start, end, colour):
+    """Bytes of the payload in hexadecimal, the first one's place above it."""
+    out = [text(x, y - 5, start, 10, fill='#444444')]
+    for i, byte in enumerate(s[start:end]):
+        out += [box(x + i * BYTE, y, BYTE, 30, colour, '#ffffff'),
+                text(x + i * BYTE + BYTE / 2, y + 20, f'{byte:02X}', 13, 'middle', font_family='monospace')]
+    return ''.join(out)
+
+
+def numbers_below(x, y, numbers, wide, high=16):
+    """The numbers that some bytes are, each below its own."""
+    return ''.join(box(x + i * wide + 1, y, wide - 2, high, '#ffffff', GREY, 0.8) + text(x + i * wide + wide / 2, y + 12, n, 11, 'middle')
+                   for i, n in enumerate(numbers))
+
+
+def stream_ruler(x, y, s, start, parts, name):
+    """A stream of the payload, part by part."""
+    places, out = places_at(start, parts), []
+    count = u32_at(s, start)
+    words = {'count': 'count', 'rects': f'{count} x (left, top, right, bottom)', 'pairs': f'{count} x (q, quality)', 'h264': 'H.264'}
+    if count == 1:
+        words = {**words, 'rects': 'left, top, right, bottom', 'pairs': 'q, quality'}
+    for field, a, e in zip(Parts._fields, places, places[1:]):
+        at = x + (a - start) * BYTE
+        out += [ruler(at, y, s, a, e, PART_COLOURS[field]), brace(at, y + 50, (e - a) * BYTE, words[field], 11)]
+        if field == 'rects':
+            out.append(numbers_below(at, y + 32, [u16_at(s, i) for i in range(a, e, 2)], 2 * BYTE))
+    out.append(numbers_below(x, y + 32, [count], 4 * BYTE))
+    out.append(numbers_below(x + (places[2] - start) * BYTE, y + 32, s[places[2]:places[3]], BYTE))
+    wide = (places[-1] - start) * BYTE
+    out.append(path(f'M{x + 2} {y - 20}v-5h{wide - 4}v5', INK, 1.5) + text(x + wide / 2, y - 31, name, 13, 'middle', font_weight='bold'))
+    return out
+
+
+def bits(x, y, number, count, split, wide):
+    """The bits of a number, the highest first; those below `split` in the size's colour."""
+    out = []
+    for i in range(count):
+        bit = count - 1 - i
+        out += [box(x + i * wide, y, wide, 22, PALE if bit < split else YELLOW, '#ffffff'),
+                text(x + i * wide + wide / 2, y + 16, number // 2 ** bit % 2, 11, 'middle', font_family='monospace')]
+        if bit in (0, split - 1, split, count - 1):
+            out.append(text(x + i * wide + wide / 2, y - 4, bit, 10, 'middle', fill='#444444'))
+    return ''.join(out)
+
+
+def bit_fields(y, s, quantiser):
+    """The first number and a quantiser byte, bit by bit."""
+    number = u32_at(s, 0)
+    return [text(24, y - 22, f'The first number, {number:08X}', 14, font_weight='bold'), bits(24, y, number, 32, 30, 17),
+            brace(24, y + 24, 34, 'kind'), brace(58, y + 24, 30 * 17, f'size of the first stream: {number % 2 ** 30} bytes'),
+            text(620, y - 22, f'A quantiser byte q, {quantiser:02X}', 14, font_weight='bold'), bits(620, y, quantiser, 8, 6, 27),
+            brace(620, y + 24, 54, 'flags'), brace(674, y + 24, 6 * 27, f'value: {quantiser % 64}'),
+            text(620, y + 62, 'bit 7: progressive; bit 6: reserved', 12)]
+
+
+def kind_bars(y, size):
+    """What follows the first number in each kind; a first stream of `size` bytes."""
+    rows = [(0, size, [('stream 1: luma, size bytes', 300, PALE), ('stream 2: chroma, to the payload’s end', 306, '#ffffff')], 'stream 1’s bytes'),
+            (1, size, [('the one stream: luma, to the payload’s end', 606, PALE)], 'its bytes (*)'),
+            (2, 0, [('the one stream: chroma, to the payload’s end', 606, '#ffffff')], '0 (*)')]
+    out = [text(794, y - 8, 'size field', 12, font_weight='bold')]
+    for kind, wanted, streams, words in rows:
+        x, row = 182, y + 34 * kind
+        first = ' '.join(f'{byte:02X}' for byte in u32_bytes(info_of(kind, wanted)))
+        out += [text(24, row + 18, f'kind {kind}', 13, font_weight='bold'), box(82, row, 100, 26, YELLOW, INK),
+                text(132, row + 18, first, 12, 'middle', font_family='monospace')]
+        for name, wide, colour in streams:
+            out += [box(x, row, wide, 26, colour, INK), text(x + wide / 2, row + 18, name, 12, 'middle')]
+            x += wide
+        out.append(text(x + 6, row + 18, words, 12))
+    return out + [lines(24, y + 126, [
+        '(*) What the standard wants and the writer writes; the reader takes any size within the payload there, and does not use it.',
+        'Refused, in this order: below 4 bytes (9), kind 3 (8), a size past the payload (9), a count, rectangle or pair past its stream (10).'], 12)]
+
+
+def draw_payload():
+    luma, chroma = ([byte for part in parts for byte in part] for parts in (LUMA_STREAM, CHROMA_STREAM))
+    s = u32_bytes(info_of(0, len(luma))) + luma + chroma
+    out = [text(24, 54, 'An example of kind 0, byte by byte in hexadecimal; places count from 0, all numbers are little-endian.', 13),
+           ruler(24, 130, s, 0, 4, YELLOW), numbers_below(24, 162, [u32_at(s, 0)], 4 * BYTE), brace(24, 180, 4 * BYTE, 'kind and size', 11)]
+    out += stream_ruler(24 + 4 * BYTE, 130, s, 4, LUMA_STREAM, f'stream 1 (luma): {len(luma)} bytes, the size in the first number')
+    out += stream_ruler(24, 280, s, 4 + len(luma), CHROMA_STREAM, f'stream 2 (chroma): {len(chroma)} bytes, to the payload’s end')
+    out += bit_fields(420, s, LUMA_STREAM.pairs[0]) + kind_bars(536, len(luma))
+    said = (f'A payload of kind 0 of {len(s)} bytes: ' + ' '.join(f'{byte:02X}' for byte in s) + '. '
+            'The first number has the kind in its top two bits and the first stream’s size in its low 30 bits; each stream has a count, '
+            'that many rectangles of four two-byte numbers, that many pairs of a quantiser and a quality byte, and H.264 bytes. '
+            'Kinds 1 and 2 have one stream, luma or chroma, to the payload’s end.')
+    return picture(696, 'The AVC444 payload', said, out)
+
+
+# --- filter.svg: the reverse filter's answer over s, for one a.
+
+WORKED = [(100, 270, 130), (100, 271, 100), (100, 329, 100), (100, 330, 70)]  # a, s and the answer, worked by hand
+OTHERS = [(20, 180, 20), (30, 120, 0), (225, 300, 255), (226, 300, 226)]
+GRAPH = namedtuple('Graph', 'x y across up most')(330, 440, 1.12, 1.4, 480)   # its corner, pixels for a step of s and of the answer, the last s
+
+
+def point(s, answer):
+    return f'{GRAPH.x + s * GRAPH.across:.5g} {GRAPH.y - answer * GRAPH.up:.5g}'
+
+
+def runs(value, last):
+    """The points of a whole-number function, cut where it jumps; of a straight run its two ends alone."""
+    out = [[0]]
+    for s in range(1, last + 1):
+        if abs(value(s) - value(s - 1)) > 1:
+            out.append([s])
+        elif len(out[-1]) > 1 and value(s) - value(s - 1) == value(out[-1][-1]) - value(out[-1][-1] - 1):
+            out[-1][-1] = s
+        else:
+            out[-1].append(s)
+    return out
+
+
+def curve(value, last, **more):
+    return path(''.join('M' + 'L'.join(point(s, value(s)) for s in run) for run in runs(value, last)), **more)
+
+
+def axes():
+    out = [path(f'M{point(0, 262)}V{GRAPH.y}H{GRAPH.x + (GRAPH.most + 8) * GRAPH.across:g}', INK, 1.2)]
+    for s in range(0, GRAPH.most + 1, 50):
+        x = GRAPH.x + s * GRAPH.across
+        out.append(path(f'M{x:g} {GRAPH.y}v5', INK) + text(x, GRAPH.y + 18, s, 11, 'middle'))
+    for answer in (0, 70, 100, 130, 255):
+        y = GRAPH.y - answer * GRAPH.up
+        out.append(path(f'M{GRAPH.x - 5} {y:g}H{GRAPH.x + GRAPH.most * GRAPH.across:g}', '#cccccc', 0.8, stroke_dasharray='2 3')
+                   + text(GRAPH.x - 9, y + 4, answer, 11, 'end'))
+    middle = GRAPH.x + GRAPH.most * GRAPH.across / 2
+    return out + [text(middle, GRAPH.y + 38, 's, the sum of the other three (goes on to 765; the answer stays 0)', 12, 'middle'),
+                  text(GRAPH.x + 8, GRAPH.y - 255 * GRAPH.up - 14, 'answer', 12)]
+
+
+def worked_marks():
+    out = []
+    for (a, s, answer), (dx, dy, anchor) in zip(WORKED, [(12, -8, 'start'), (-12, 5, 'end'), (12, 5, 'start'), (-12, 16, 'end')]):
+        assert filtered_of(a, s) == answer
+        x, y = map(float, point(s, answer).split())
+        out.append(f'<circle cx="{x:g}" cy="{y:g}" r="5" fill="{YELLOW}" stroke="{INK}" stroke-width="1.5"/>'
+                   + text(x + dx, y + dy, f'({a}, {s}) → {answer}', 12, anchor, stroke='white', stroke_width=4, paint_order='stroke'))
+    return out
+
+
+def block_of_four(x, y):
+    side, out = 62, []
+    for i, (words, colour) in enumerate([('a', YELLOW), ('b', PALE), ('c', PALE), ('d', PALE)]):
+        left, top = x + i % 2 * side, y + i // 2 * side
+        out += [box(left, top, side, side, colour, INK), text(left + side / 2, top + 37, words, 18, 'middle')]
+    out += [text(x + side * i + side / 2, y - 6, ('even', 'odd')[i], 11, 'middle') for i in (0, 1)]
+    return out + [text(x - 6, y + side * i + side / 2 + 4, ('even', 'odd')[i], 11, 'end') for i in (0, 1)]
+
+
+def draw_filter():
+    a = WORKED[0][0]
+    kept = [s for s in range(GRAPH.most + 1) if filtered_of(a, s) == a]
+    assert kept == list(range(kept[0], kept[-1] + 1))
+    assert all(filtered_of(*line[:2]) == line[2] for line in OTHERS)
+    x, y = GRAPH.x + kept[0] * GRAPH.across, GRAPH.y - 255 * GRAPH.up
+    band = box(x, y, (kept[-1] - kept[0]) * GRAPH.across, 255 * GRAPH.up, '#7cc4ee44')
+    words = ['s = b + c + d', 't = 4a − s, clamped to 0..255', 'answer: a if |t − a| < 30,', 'else t', '', 'Further lines, (a, s) → answer:']
+    out = [*block_of_four(70, 92), lines(24, 250, words + [f'({b}, {s}) → {answer}' for b, s, answer in OTHERS], 13, 19), band, *axes(),
+           text(x + (kept[-1] - kept[0]) * GRAPH.across / 2, y + 16, f's = {kept[0]} to {kept[-1]}:', 12, 'middle'),
+           text(x + (kept[-1] - kept[0]) * GRAPH.across / 2, y + 32, 'a is kept', 12, 'middle'),
+           curve(lambda s: reversed_of(a, s), GRAPH.most, stroke=RED, thick=1.4, stroke_dasharray='5 4'),
+           curve(lambda s: filtered_of(a, s), GRAPH.most, stroke=BLUE, thick=3.2), *worked_marks(),
+           path(f'M{GRAPH.x + 418} 150h34', BLUE, 3.2), text(GRAPH.x + 460, 154, f'answer, a = {a}', 12),
+           path(f'M{GRAPH.x + 418} 174h34', RED, 1.4, stroke_dasharray='5 4'), text(GRAPH.x + 460, 178, 't', 12)]
+    said = ('; '.join(words[:3]) + f' else t. For a = {a} the answer over s: a for s = {kept[0]} to {kept[-1]}, t elsewhere. '
+            'Worked lines, (a, s) and the answer: ' + ', '.join(f'({b}, {s}) {answer}' for b, s, answer in WORKED) + '.')
+    return picture(496, 'The reverse filter of a 2x2 block', said, out)
+
+
 # --- The files.
 
-DRAWINGS = {'v1.svg': lambda: draw_layout(V1), 'v2.svg': lambda: draw_layout(V2), 'widening.svg': draw_widening}
+DRAWINGS = {'v1.svg': lambda: draw_layout(V1), 'v2.svg': lambda: draw_layout(V2), 'widening.svg': draw_widening,
+            'payload.svg': draw_payload, 'filter.svg': draw_filter}
 
 
 def main():
