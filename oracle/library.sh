@@ -44,7 +44,8 @@ state() {
     {
         echo "$road $machine"
         rt version
-        cd "$root" && find crates.txt crates oracle/library.sh oracle/retarget.py oracle/calls.c -type f -exec sha256sum {} + | sort
+        cd "$root" && find crates.txt crates oracle/library.sh oracle/retarget.py oracle/calls.c bind/c/test/results.h bind/c/haythaw.h \
+            -type f -exec sha256sum {} + | sort
     } | sha256sum
 }
 
