@@ -11,14 +11,13 @@ unsafe extern "C" {
 /// Whether a payload is length-prefixed.
 #[inline]
 pub fn is_avc_format(data: &[u8]) -> bool {
-    // SAFETY: the call reads the slice alone, and is proved for every content and length.
+    // SAFETY: pointer and count are of one slice, which is read alone.
     unsafe { haythaw_is_avc_format(data.as_ptr(), data.len()) }
 }
 
-/// The units of a length-prefixed payload in Annex B.
+/// The units of a length-prefixed payload in Annex B. 0 or 6.
 #[inline]
 pub fn avc_to_annex_b(data: &[u8], out: &mut [u8]) -> Answer {
-    // SAFETY: the call reads the first slice and writes the second alone, is proved for every content and length,
-    // and the two do not overlap.
+    // SAFETY: each pointer and count are of one slice, and the one that is written is borrowed for that alone.
     unsafe { haythaw_avc_to_annex_b(data.as_ptr(), data.len(), out.as_mut_ptr(), out.len()) }
 }

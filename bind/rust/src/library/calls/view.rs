@@ -12,7 +12,7 @@ pub struct View<'a> {
     pub v: &'a [u8],
 }
 
-/// A row by its place in the plane that was lent.
+/// A row by its place in the plane that was lent. Its number is 0, 3 or 4.
 #[repr(C)]
 #[derive(Debug, Clone, Copy, PartialEq, Eq)]
 pub struct Row {
@@ -22,9 +22,9 @@ pub struct Row {
     pub length: usize,
 }
 
-/// Declares functions of the library that take a view and `more`, and each in safe Rust.
+/// Declares functions of the library that take a view, and perhaps a row's number, and each in safe Rust.
 macro_rules! of_views {
-    ($($(#[$about:meta])* $name:ident is $symbol:ident($($more:ident: $type:ty)?) -> $result:ty;)*) => {
+    ($($(#[$about:meta])* $name:ident is $symbol:ident($($row:ident: $type:ty)?) -> $result:ty;)*) => {
         // The names and the types are those of crates/haythaw.
         unsafe extern "C" {
             $(fn $symbol(
@@ -38,15 +38,15 @@ macro_rules! of_views {
                 view_u_count: usize,
                 view_v: *const u8,
                 view_v_count: usize,
-                $($more: $type)?
+                $($row: $type)?
             ) -> $result;)*
         }
 
         $($(#[$about])*
         #[inline]
-        pub fn $name(view: View<'_>, $($more: $type)?) -> $result {
+        pub fn $name(view: View<'_>, $($row: $type)?) -> $result {
             let View { width, height, luma_stride, chroma_stride, y, u, v } = view;
-            // SAFETY: the call reads the three slices alone, and is proved for all sizes, contents and lengths.
+            // SAFETY: each pointer and count are of one slice, and all are read alone.
             unsafe {
                 $symbol(
                     width,
@@ -59,7 +59,7 @@ macro_rules! of_views {
                     u.len(),
                     v.as_ptr(),
                     v.len(),
-                    $($more)?
+                    $($row)?
                 )
             }
         })*
@@ -67,8 +67,8 @@ macro_rules! of_views {
 }
 
 of_views! {
-    /// 0, or the number of the view's refusal.
-    number is haythaw_view() -> u32;
+    /// 0, 3 or 4.
+    view_number is haythaw_view() -> u32;
     /// A luma row.
     luma_row is haythaw_luma_row(row: usize) -> Row;
     /// A row of U.

@@ -33,11 +33,13 @@ macro_rules! applying {
 
         $($(#[$about])*
         #[inline]
-        pub fn $name(size: Size, planes: [&mut [u8]; 3], rects: &[u16], view: View<'_>) -> u32 {
-            let Size { width, height } = size;
-            let [y, u, v] = planes;
-            // SAFETY: the call writes the picture's three slices and reads the others alone, is proved for all sizes,
-            // contents and lengths, and no other overlaps one of the three.
+        pub fn $name(
+            Size { width, height }: Size,
+            [y, u, v]: [&mut [u8]; 3],
+            rects: &[u16],
+            view: View<'_>,
+        ) -> u32 {
+            // SAFETY: each pointer and count are of one slice, and the three that are written are borrowed for that alone.
             unsafe {
                 $symbol(
                     width,
@@ -67,10 +69,10 @@ macro_rules! applying {
 }
 
 applying! {
-    /// The main view, within the rectangles of a list.
+    /// The main view, within the rectangles of a list. 0, 1, 7, 3 or 4.
     apply_main_view is haythaw_apply_main_view;
-    /// The auxiliary view of layout V1, within the rectangles of a list.
+    /// The auxiliary view of layout V1. 0, 1, 7, 3 or 4.
     apply_auxiliary_v1 is haythaw_apply_auxiliary_v1;
-    /// The auxiliary view of layout V2, within the rectangles of a list.
+    /// The auxiliary view of layout V2. 0, 1, 7, 3 or 4.
     apply_auxiliary_v2 is haythaw_apply_auxiliary_v2;
 }

@@ -2,7 +2,7 @@
 
 use super::Size;
 
-/// 0 or the number of a refusal, and the sizes and strides that both views have.
+/// What a split answers: 0, 1, 5 or 6, and the sizes and strides that both views have.
 #[repr(C)]
 #[derive(Debug, Clone, Copy, PartialEq, Eq)]
 pub struct Views {
@@ -44,12 +44,13 @@ macro_rules! splitting {
 
         $($(#[$about])*
         #[inline]
-        pub fn $name(size: Size, planes: [&[u8]; 3], outputs: [&mut [u8]; 6]) -> Views {
-            let Size { width, height } = size;
-            let [y, u, v] = planes;
-            let [main_y, main_u, main_v, aux_y, aux_u, aux_v] = outputs;
-            // SAFETY: the call reads the picture's three slices and writes the six others alone, is proved for all sizes,
-            // contents and lengths, and no other overlaps one of the six.
+        pub fn $name(
+            Size { width, height }: Size,
+            [y, u, v]: [&[u8]; 3],
+            [main_y, main_u, main_v]: [&mut [u8]; 3],
+            [aux_y, aux_u, aux_v]: [&mut [u8]; 3],
+        ) -> Views {
+            // SAFETY: each pointer and count are of one slice, and the six that are written are borrowed for that alone.
             unsafe {
                 $symbol(
                     width,
@@ -79,8 +80,8 @@ macro_rules! splitting {
 }
 
 splitting! {
-    /// The main view's Y, U and V and the auxiliary view's, in layout V1.
+    /// The main view, and the auxiliary one in layout V1.
     split_v1 is haythaw_split_v1;
-    /// The main view's Y, U and V and the auxiliary view's, in layout V2.
+    /// The main view, and the auxiliary one in layout V2.
     split_v2 is haythaw_split_v2;
 }

@@ -1,7 +1,7 @@
 //! A 4:4:4 picture in the planes Y, U and V.
 
 /// A picture's width and height.
-#[derive(Clone, Copy)]
+#[derive(Debug, Clone, Copy, PartialEq, Eq)]
 pub struct Size {
     pub width: u16,
     pub height: u16,
@@ -36,17 +36,20 @@ unsafe extern "C" {
 }
 
 /// Bytes of the three planes together.
+#[inline]
 pub fn allocation_size(Size { width, height }: Size) -> usize {
     haythaw_allocation_size(width, height)
 }
 
 /// A fresh picture. 0 or 1.
+#[inline]
 pub fn new(Size { width, height }: Size, [y, u, v]: [&mut [u8]; 3]) -> u32 {
     // SAFETY: each pointer and count are of one slice, and all three are borrowed to be written.
     unsafe { haythaw_new(width, height, y.as_mut_ptr(), y.len(), u.as_mut_ptr(), u.len(), v.as_mut_ptr(), v.len()) }
 }
 
 /// The picture of RGBA pixels. 0, 2 or 1.
+#[inline]
 pub fn from_rgba(rgba: &[u8], Size { width, height }: Size, [y, u, v]: [&mut [u8]; 3]) -> u32 {
     // SAFETY: each pointer and count are of one slice, and the three that are written are borrowed for that alone.
     unsafe {

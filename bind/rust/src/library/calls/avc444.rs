@@ -4,7 +4,7 @@ use super::Answer;
 
 /// Where the parts of a stream are in the payload that was lent, and how many rectangles and H.264 bytes there are.
 #[repr(C)]
-#[derive(Clone, Copy)]
+#[derive(Debug, Clone, Copy, PartialEq, Eq)]
 pub struct Places {
     pub count: usize,
     pub rects: usize,
@@ -15,7 +15,7 @@ pub struct Places {
 
 /// What a payload carries. Its number is 0, 9, 8 or 10.
 #[repr(C)]
-#[derive(Clone, Copy)]
+#[derive(Debug, Clone, Copy, PartialEq, Eq)]
 pub struct Avc444 {
     pub number: u32,
     pub kind: u32,
@@ -25,7 +25,7 @@ pub struct Avc444 {
 
 /// A rectangle of a stream. Its number is the payload's.
 #[repr(C)]
-#[derive(Clone, Copy)]
+#[derive(Debug, Clone, Copy, PartialEq, Eq)]
 pub struct Rectangle {
     pub number: u32,
     pub present: bool,
@@ -37,7 +37,7 @@ pub struct Rectangle {
 
 /// A pair of a stream. Its number is the payload's.
 #[repr(C)]
-#[derive(Clone, Copy)]
+#[derive(Debug, Clone, Copy, PartialEq, Eq)]
 pub struct Pair {
     pub number: u32,
     pub present: bool,
@@ -56,6 +56,7 @@ macro_rules! reading {
         }
 
         $($(#[$about])*
+        #[inline]
         pub fn $name(payload: &[u8], $($i: $type)?) -> $result {
             // SAFETY: pointer and count are of one slice, which is read alone.
             unsafe { $symbol(payload.as_ptr(), payload.len(), $($i)?) }
@@ -85,6 +86,7 @@ macro_rules! copying {
         }
 
         $($(#[$about])*
+        #[inline]
         pub fn $name(payload: &[u8], out: &mut [u16]) -> Answer {
             // SAFETY: each pointer and count are of one slice, and the one that is written is borrowed for that alone.
             unsafe { $symbol(payload.as_ptr(), payload.len(), out.as_mut_ptr(), out.len()) }
@@ -129,6 +131,7 @@ unsafe extern "C" {
 }
 
 /// The payload of a kind. 0, 8, 7, 11 or 6.
+#[inline]
 pub fn avc444_write(kind: u32, luma: Given<'_>, chroma: Given<'_>, out: &mut [u8]) -> Answer {
     // SAFETY: each pointer and count are of one slice, and the one that is written is borrowed for that alone.
     unsafe {

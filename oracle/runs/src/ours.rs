@@ -1,4 +1,10 @@
-//! The colour arithmetic on bytes.
+//! The library's functions. All that is unsafe in the runs is below this file: bind/rust's own declarations, and here the four functions
+//! that no header has, since nothing but a comparison calls them.
+
+#[path = "../../../bind/rust/src/library/calls/mod.rs"]
+mod calls;
+
+pub use calls::*;
 
 #[repr(C)]
 struct Yuv {

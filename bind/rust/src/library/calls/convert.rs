@@ -36,12 +36,11 @@ unsafe extern "C" {
     ) -> Answer;
 }
 
-/// The rectangle (left, top, right, bottom) of a picture in the planes Y, U and V.
+/// The rectangle (left, top, right, bottom) of a picture. 0, 1 or 6.
 #[inline]
 pub fn to_rgba(Size { width, height }: Size, [y, u, v]: [&[u8]; 3], rect: [u16; 4], out: &mut [u8]) -> Answer {
     let [left, top, right, bottom] = rect;
-    // SAFETY: the call reads the three slices and writes the fourth alone, is proved for all sizes, contents and lengths,
-    // and no other overlaps the fourth.
+    // SAFETY: each pointer and count are of one slice, and the one that is written is borrowed for that alone.
     unsafe {
         haythaw_to_rgba(
             width,
@@ -62,11 +61,11 @@ pub fn to_rgba(Size { width, height }: Size, [y, u, v]: [&[u8]; 3], rect: [u16; 
     }
 }
 
-/// A whole view.
+/// A whole view. 0, 3, 4 or 6.
 #[inline]
 pub fn view_to_rgba(view: View<'_>, out: &mut [u8]) -> Answer {
     let View { width, height, luma_stride, chroma_stride, y, u, v } = view;
-    // SAFETY: as for `to_rgba`.
+    // SAFETY: each pointer and count are of one slice, and the one that is written is borrowed for that alone.
     unsafe {
         haythaw_view_to_rgba(
             width,
