@@ -14,17 +14,16 @@ use Rattle.rects.specs.declared.Area.{Area}
 use Rattle.rects.specs.Rects.{inArea}
 use Rattle.apply_main.proofs.RowLaws.{upTo-facts, upTo-holds}
 
--- the loop's invariant: ys is xs with the area's rows below `row` written
-abbrev pub BoxRows : ℕ → ℕ → Area → ℕ → (ℕ → ℕ → ℕ) → List ℕ → List ℕ → ℕ → Type 0
-BoxRows w h area seen s xs ys row = (area .top ≤ row) × (length ys ≡ length xs) × (ys ≡ painted w h (upTo (upTo (inArea area) seen) row) s xs)
-
 module _ (w h : ℕ) (area : Area) (seen : ℕ) (s : ℕ → ℕ → ℕ) (xs : List ℕ) where
-  pub box-rows-none : BoxRows w h area seen s xs xs (area .top)
+  -- the loop's invariant: ys is xs with the area's rows below `row` written
+  abbrev pub BoxRows : List ℕ → ℕ → Type 0
+  BoxRows ys row = (area .top ≤ row) × (length ys ≡ length xs) × (ys ≡ painted w h (upTo (upTo (inArea area) seen) row) s xs)
+
+  pub box-rows-none : BoxRows xs (area .top)
   box-rows-none = (omega arith, refl, rows-none w h _ s xs (area .top) (λ r c e. box-facts _ _ _ _ r c (upTo-facts _ seen r c e .0) .0))
 
-  pub box-rows-more : {was ys : List ℕ} (row : ℕ) → BoxRows w h area seen s xs was row → row < area .bottom
-      → ys ≡ painted w h (upTo (rowPart every row (area .left) (area .right)) seen) s was
-      → BoxRows w h area seen s xs ys (row + 1)
+  pub box-rows-more : {was ys : List ℕ} (row : ℕ) → BoxRows was row → row < area .bottom
+      → ys ≡ painted w h (upTo (rowPart every row (area .left) (area .right)) seen) s was → BoxRows ys (row + 1)
   box-rows-more row before more one =
       let next = one
       ∙ ap (painted w h (upTo (rowPart every row (area .left) (area .right)) seen) s) (before .2)
@@ -37,12 +36,11 @@ module _ (w h : ℕ) (area : Area) (seen : ℕ) (s : ℕ → ℕ → ℕ) (xs : 
       upTo-holds _ seen row c (rowPart-holds every row (area .left) (area .right) row c refl (f .2) (f .3) refl) (u .1)) in
       (omega arith, ap length next ∙ length-painted w h _ s xs, next)
 
-  pub box-rows-all : {ys : List ℕ} (row : ℕ) → BoxRows w h area seen s xs ys row → area .bottom ≤ row → ys ≡ painted w h (upTo (inArea area) seen) s xs
+  pub box-rows-all : {ys : List ℕ} (row : ℕ) → BoxRows ys row → area .bottom ≤ row → ys ≡ painted w h (upTo (inArea area) seen) s xs
   box-rows-all row done end =
       done .2 ∙ rows-all w h _ s xs row (λ r c hr hc e. omega (arith, box-facts _ _ _ _ r c (upTo-facts _ seen r c e .0)))
 
-module _ (w h top bottom left right seen : ℕ) (s : ℕ → ℕ → ℕ) (xs : List ℕ) where
-  -- no column, so nothing is taken
-  pub box-rows-empty : right ≤ left → xs ≡ painted w h (upTo (box top bottom left right) seen) s xs
-  box-rows-empty none =
-      painted-none w h _ s xs (λ r c hr hc. never-true _ (λ e. omega (arith, box-facts top bottom left right r c (upTo-facts _ seen r c e .0))))
+-- no column, so nothing is taken
+pub box-rows-empty : (w h top bottom left right seen : ℕ) (s : ℕ → ℕ → ℕ) (xs : List ℕ) → right ≤ left → xs ≡ painted w h (upTo (box top bottom left right) seen) s xs
+box-rows-empty w h top bottom left right seen s xs none =
+    painted-none w h _ s xs (λ r c hr hc. never-true _ (λ e. omega (arith, box-facts top bottom left right r c (upTo-facts _ seen r c e .0))))

@@ -19,25 +19,25 @@ use Rattle.rects.specs.Rects.{Rule, rectAtOf, by, nth, takenBy, taken, a
 
 -- ---- the loop over a list: the plane is painted by what the first n rectangles take
 
--- the loop's invariant, where ys is what has become of xs
-abbrev pub RectsDone : ℕ → ℕ → Rule → List ℕ → (ℕ → ℕ → ℕ) → List ℕ → ℕ → List ℕ → ℕ → Type 0
-RectsDone w h rule rects s xs count ys n = (n ≤ count) × (count ≡ length rects / 4) × (length ys ≡ length xs) × (ys ≡ painted w h (takenBy rule rects n) s xs)
-
 module _ (w h : ℕ) (rule : Rule) (rects : List ℕ) (s : ℕ → ℕ → ℕ) (xs : List ℕ) where
-  pub rects-none : RectsDone w h rule rects s xs (length rects / 4) xs 0
+  -- the loop's invariant, where ys is what has become of xs
+  abbrev pub RectsDone : ℕ → List ℕ → ℕ → Type 0
+  RectsDone count ys n = (n ≤ count) × (count ≡ length rects / 4) × (length ys ≡ length xs) × (ys ≡ painted w h (takenBy rule rects n) s xs)
+
+  pub rects-none : RectsDone (length rects / 4) xs 0
   unfolding takenBy
   rects-none = (omega arith, refl, refl, some-none w h (nth rule rects) s xs)
 
   -- rectangle n was served, where those before it were
-  pub rects-more : {count : ℕ} {was ys : List ℕ} (n : ℕ) (rect : Rect) → RectsDone w h rule rects s xs count was n → n < count
+  pub rects-more : {count : ℕ} {was ys : List ℕ} (n : ℕ) (rect : Rect) → RectsDone count was n → n < count
       → rect ≡ rectAtOf rects n → ys ≡ painted w h (by rule rect) s was
-      → RectsDone w h rule rects s xs count ys (n + 1)
+      → RectsDone count ys (n + 1)
   unfolding takenBy nth
   rects-more n rect before lt this more =
       let next = more ∙ (λ i. painted w h (by rule (this i)) s (before .3 i)) ∙ some-more w h (nth rule rects) s xs n in
       (omega arith, before .1, ap length next ∙ length-painted w h _ s xs, next)
 
-  pub rects-all : {count : ℕ} {ys : List ℕ} (n : ℕ) → RectsDone w h rule rects s xs count ys n → count ≤ n → ys ≡ painted w h (taken rule rects) s xs
+  pub rects-all : {count : ℕ} {ys : List ℕ} (n : ℕ) → RectsDone count ys n → count ≤ n → ys ≡ painted w h (taken rule rects) s xs
   rects-all n done end = let all : n ≡ length rects / 4 = omega arith in done .3 ∙ ap (λ (m : ℕ). painted w h (takenBy rule rects m) s xs) all
 
 -- ---- what `taken` means
