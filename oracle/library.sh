@@ -27,16 +27,21 @@ place=$build
 if [[ $machine != "$here" ]]; then place=$build/$machine; fi
 archive=$place/libhaythaw.a
 
-command -v rt >/dev/null || fail "rt, the kit's command, is not at hand"
+"$root/.ci/needs" library || exit 1
 [[ -f $root/crates/haythaw/src/lib.rt ]] || fail "there is no crate haythaw in $root/crates"
 kit=$(dirname "$(dirname "$(rt doc)")")
 
-# Runs rt in the repository, and shows what it said if it fails.
+# Runs rt in the repository, and shows what it said if it fails. Its status is 1 where something is not proved, on a full disk too, which
+# is asked for first; any other is no verdict.
 run_rt() { # WORDS...
-    (cd "$root" && rt "$@") >"$build/rt.log" 2>&1 || {
-        tail -n 40 "$build/rt.log" >&2
-        fail "rt $* failed"
-    }
+    local ended=0
+    : >"$build/rt.log"
+    (cd "$root" && rt "$@") >"$build/rt.log" 2>&1 || ended=$?
+    [[ $ended -ne 0 ]] || return 0
+    tail -n 40 "$build/rt.log" >&2
+    "$root/.ci/needs" after "$build/rt.log" || fail "rt $*: no verdict, since something could not be written"
+    [[ $ended -ne 1 ]] || fail "rt $*: something is not proved, or was refused"
+    fail "rt $* ended with status $ended, with no verdict"
 }
 
 # What the library is made from, and how.
@@ -44,7 +49,8 @@ state() {
     {
         echo "$road $machine"
         rt version
-        cd "$root" && find crates.txt crates oracle/library.sh oracle/retarget.py oracle/calls.c -type f -exec sha256sum {} + | sort
+        cd "$root" && find crates.txt crates oracle/library.sh oracle/retarget.py oracle/calls.c bind/c/test/results.h bind/c/haythaw.h \
+            -type f -exec sha256sum {} + | sort
     } | sha256sum
 }
 

@@ -7,10 +7,6 @@ set -euo pipefail
 root=$(cd "$(dirname "${BASH_SOURCE[0]}")/.." && pwd -P)
 cd "$root"
 
-if ! command -v cc >/dev/null; then
-    echo 'c: not run: there is no C compiler (cc)'
-    exit 0
-fi
 oracle/library.sh
 library=oracle/build/libhaythaw.a
 made=$(mktemp -d)

@@ -6,13 +6,13 @@ int main(void)
 {
     const uint8_t rgba[8] = {255, 0, 0, 255, 0, 255, 0, 255};
     static uint8_t y[256], u[256], v[256]; /* a third of haythaw_allocation_size(2, 1) each */
-    static uint8_t main_y[256], main_u[64], main_v[64], aux_y[256], aux_u[64], aux_v[64];
+    static uint8_t main_y[256], main_u[64], main_v[64], auxiliary_y[256], auxiliary_u[64], auxiliary_v[64];
     uint8_t red[4];
 
     if (haythaw_from_rgba(rgba, 8, 2, 1, y, 256, u, 256, v, 256) != HAYTHAW_DONE)
         return 1;
     haythaw_views views = haythaw_split_v2(2, 1, y, 256, u, 256, v, 256, main_y, 256, main_u, 64, main_v, 64,
-                                           aux_y, 256, aux_u, 64, aux_v, 64);
+                                           auxiliary_y, 256, auxiliary_u, 64, auxiliary_v, 64);
     haythaw_answer answer = haythaw_to_rgba(2, 1, y, 256, u, 256, v, 256, 0, 0, 1, 1, red, sizeof red);
     printf("views of %u x %u; %zu bytes: %u %u %u\n", views.width, views.height, answer.count, red[0], red[1], red[2]);
     return answer.number != HAYTHAW_DONE;

@@ -197,22 +197,24 @@ uint32_t haythaw_apply_auxiliary_v2(uint16_t width, uint16_t height, uint8_t *y,
  *
  * Both answer 0, 1, 5 or 6, in this order of refusals: a width or height above 65,520 is refused with 5, also where the other
  * is 0. Main: the luma plane, and the even-even chroma. Auxiliary: the chroma of the other three places of each block. They
- * write the first stride x rows bytes of main_y and aux_y and the first stride/2 x rows/2 bytes of main_u, main_v, aux_u and
- * aux_v, every one; bytes after them stay. The picture is only read. */
+ * write the first stride x rows bytes of main_y and auxiliary_y and the first stride/2 x rows/2 bytes of main_u, main_v,
+ * auxiliary_u and auxiliary_v, every one; bytes after them stay. The picture is only read. */
 
 /* The auxiliary view in the layout of AVC444 (V1). */
 haythaw_views haythaw_split_v1(uint16_t width, uint16_t height, const uint8_t *y, size_t y_count,
                                const uint8_t *u, size_t u_count, const uint8_t *v, size_t v_count,
                                uint8_t *main_y, size_t main_y_count, uint8_t *main_u, size_t main_u_count,
-                               uint8_t *main_v, size_t main_v_count, uint8_t *aux_y, size_t aux_y_count,
-                               uint8_t *aux_u, size_t aux_u_count, uint8_t *aux_v, size_t aux_v_count);
+                               uint8_t *main_v, size_t main_v_count, uint8_t *auxiliary_y, size_t auxiliary_y_count,
+                               uint8_t *auxiliary_u, size_t auxiliary_u_count, uint8_t *auxiliary_v,
+                               size_t auxiliary_v_count);
 
 /* The auxiliary view in the layout of AVC444v2 (V2). */
 haythaw_views haythaw_split_v2(uint16_t width, uint16_t height, const uint8_t *y, size_t y_count,
                                const uint8_t *u, size_t u_count, const uint8_t *v, size_t v_count,
                                uint8_t *main_y, size_t main_y_count, uint8_t *main_u, size_t main_u_count,
-                               uint8_t *main_v, size_t main_v_count, uint8_t *aux_y, size_t aux_y_count,
-                               uint8_t *aux_u, size_t aux_u_count, uint8_t *aux_v, size_t aux_v_count);
+                               uint8_t *main_v, size_t main_v_count, uint8_t *auxiliary_y, size_t auxiliary_y_count,
+                               uint8_t *auxiliary_u, size_t auxiliary_u_count, uint8_t *auxiliary_v,
+                               size_t auxiliary_v_count);
 
 /* ---- A 4:2:0 view by itself ----
  *

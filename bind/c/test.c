@@ -7,46 +7,10 @@
 #include "test/by_hand.h"
 #include "test/far.h"
 #include "test/lengths.h"
+#include "test/results.h"
 #include "test/sizes.h"
 #include "test/wire.h"
 #include "test/write.h"
-
-/* One function of each result type, before anything else: a result that this machine returns in another way than the library does
- * would be wrong here. */
-static void each_result_type(void)
-{
-    uint8_t y[8] = {0}, u[2] = {0}, v[2] = {0}, out[6] = {0};
-    static uint8_t p[256], q[64];
-    const uint8_t units[6] = {0, 0, 0, 2, 0x67, 0x42};
-
-    check(haythaw_view(3, 2, 4, 2, y, 8, u, 2, v, 1) == HAYTHAW_VIEW_SHORT, "view", "a uint32_t");
-    check(haythaw_allocation_size(65535, 65535) == (size_t)3 << 32, "allocation_size", "a size_t");
-    check(haythaw_is_avc_format(units, 6) && !haythaw_is_avc_format(units, 5), "is_avc_format", "a bool");
-    haythaw_answer answer = haythaw_avc_to_annex_b(units, 6, out, 6);
-    check(answer.number == HAYTHAW_DONE && answer.count == 6, "avc_to_annex_b", "a haythaw_answer");
-    haythaw_row row = haythaw_luma_row(3, 2, 4, 2, y, 8, u, 2, v, 2, 1);
-    check(row.number == HAYTHAW_DONE && row.present && row.start == 4 && row.length == 3, "luma_row", "a haythaw_row");
-    haythaw_views views = haythaw_split_v1(0, 16, p, 0, p, 0, p, 0, q, 0, q, 0, q, 0, q, 0, q, 0, q, 0);
-    check(views.number == HAYTHAW_DONE && views.width == 0 && views.height == 16, "split_v1", "a haythaw_views, empty");
-    static uint8_t my[256], mu[64], mv[64], ay[256], au[64], av[64];
-    views = haythaw_split_v2(16, 1, p, 256, p, 256, p, 256, my, 256, mu, 64, mv, 64, ay, 256, au, 64, av, 64);
-    check(views.number == HAYTHAW_DONE && views.width == 16 && views.height == 16 && views.luma_stride == 16 && views.chroma_stride == 8,
-          "split_v2", "a haythaw_views");
-    /* chroma alone: one rectangle, its pair, one H.264 byte */
-    const uint8_t payload[19] = {0, 0, 0, 0x80, 1, 0, 0, 0, 1, 2, 3, 4, 5, 6, 7, 8, 0xC9, 10, 11};
-    haythaw_avc444 read = haythaw_avc444_read(payload, 19);
-    check(read.number == HAYTHAW_DONE && read.kind == 2 && read.luma.count == 0 && read.luma.rects == 0 && read.luma.pairs == 0 &&
-              read.luma.data == 0 && read.luma.length == 0 && read.chroma.count == 1 && read.chroma.rects == 8 &&
-              read.chroma.pairs == 16 && read.chroma.data == 18 && read.chroma.length == 1,
-          "avc444_read", "a haythaw_avc444");
-    haythaw_rectangle rectangle = haythaw_avc444_chroma_rectangle(payload, 19, 0);
-    check(rectangle.number == HAYTHAW_DONE && rectangle.present && rectangle.left == 0x201 && rectangle.top == 0x403 &&
-              rectangle.right == 0x605 && rectangle.bottom == 0x807,
-          "avc444_chroma_rectangle", "a haythaw_rectangle");
-    haythaw_pair pair = haythaw_avc444_chroma_pair(payload, 19, 0);
-    check(pair.number == HAYTHAW_DONE && pair.present && pair.value == 9 && pair.reserved && pair.progressive && pair.quality == 10,
-          "avc444_chroma_pair", "a haythaw_pair");
-}
 
 /* A picture of noise is split both ways and applied, main then auxiliary, over a rectangle with an odd left edge to a copy of an
  * earlier picture: its luma inside the rectangle, its chroma in the widened one, and nothing else. */

@@ -1,14 +1,13 @@
 -- What the main view's rules take, as facts, and as boxes of rows: the code's box is the rule's.
 -- Assumes nothing.
-use Prim.Native.Nat.{ℕ, _+_, _*_, _/_, _%_, _<_, _≤_, min}
+use Prim.Native.Nat.{ℕ, _*_, _/_, _<_, _≤_, min}
 use native.Mathlib.Omega.{arith}
-use mathlib.Core.Path.{_≡_, refl, sym, ap, _∙_, subst}
-use mathlib.Core.Bool.{Bool, true, false, _&&_}
+use mathlib.Core.Path.{_≡_, refl, sym, _∙_}
+use mathlib.Core.Bool.{true, _&&_}
 use mathlib.Core.List.{List, [], _∷_}
 use lib.Dec.{ltb}
 use borrow.Author.Tests.{lt-ltb, ltb-true}
 use Rattle.lent.specs.Paint.{painted, box, upTo}
-use Rattle.lent.specs.Samples.{sample}
 use Rattle.lent.specs.Sizes.{roundUp, halfUp}
 use Rattle.lent.proofs.Bools.{same-test, both, both-left, both-right}
 use Rattle.lent.proofs.Painted.{painted-ext}
@@ -17,7 +16,6 @@ use Rattle.picture.specs.declared.Size.{Size}
 use Rattle.picture.specs.Sizes.{strideOf, rowsOf}
 use Rattle.view.specs.declared.View.{View}
 use Rattle.view.specs.declared.Plane.{Plane}
-use Rattle.view.specs.View.{lumaOf, chromaOf}
 use Rattle.apply_main.specs.Rows.{MainRowsFit}
 use Rattle.apply_main.proofs.RowLaws.{upTo-facts, upTo-holds}
 use Rattle.rects.specs.Rects.{area}
@@ -80,34 +78,19 @@ module _ (z : Size) (w : View) (left top right bottom : ℕ) where
       (λ e. let f = mainChroma-facts r c e in upTo-holds _ _ r c (box-holds _ _ _ _ r c (f .0) (f .1) (f .2) (f .3)) (omega arith)))
       (λ r c hr hc e. refl)
 
-  -- what the rows ask follows from what the rectangle has; p is the plane that the code worked out
-  pub luma-asks : (n m first end below : ℕ) (p : Plane) → p ≡ lumaOf w → RectFits z (lumaOf w) n m → end ≡ lumaEnd → below ≡ min bottom (z .height) → first < end
-      → MainRowsFit z p n m below first end end
-  luma-asks n m first end below p is f e b lt =
-      subst (λ (q : Plane). MainRowsFit z q n m below first end end) (sym is)
-      (record {
-        plane-fits = f .plane-fits;
-        view-fits = f .view-fits;
-        rows-inside = omega arith;
-        ordered = omega arith;
-        inside = omega arith;
-        seen = omega (arith, f .wide);
-      })
-
-  pub chroma-asks : (n m first end below : ℕ) (p : Plane) → p ≡ chromaOf w → RectFits z (chromaOf w) n m → first ≡ left / 2 * 2 → end ≡ chromaEnd → below ≡ chromaBelow → first < end
-      → MainRowsFit z p n m below first end (halfUp end) × (first % 2 ≡ 0)
-  chroma-asks n m first end below p is f a e b lt = (
-    subst (λ (q : Plane). MainRowsFit z q n m below first end (halfUp end)) (sym is)
-        (record {
-          plane-fits = f .plane-fits;
-          view-fits = f .view-fits;
-          rows-inside = omega arith;
-          ordered = omega arith;
-          inside = omega arith;
-          seen = omega (arith, f .wide);
-        }),
-    omega arith,
-  )
+-- what the rows ask follows from what the rectangle has; p is the plane that the code worked out, and q the view's
+pub rows-ask : (z : Size) {p q : Plane} {n m below first end to : ℕ} → p ≡ q → RectFits z q n m → below ≤ rowsOf z → first ≤ end → end ≤ strideOf z → to ≤ q .width
+    → MainRowsFit z p n m below first end to
+rows-ask z is f low ordered inside seen =
+    rw is
+    (record {
+      plane-fits = f .plane-fits;
+      view-fits = f .view-fits;
+      rows-inside = low;
+      ordered = ordered;
+      inside = inside;
+      seen = omega (arith, f .wide);
+    })
 
 -- ---- how the call ends
 

@@ -46,10 +46,6 @@ pub woven-even : (e o : List ℕ) (k : ℕ) → k % 2 ≡ 0 → woven e o k ≡ 
 unfolding woven
 woven-even e o k h = ap (λ (b : Bool). cond b (getD o (k / 2) 0) (getD e (k / 2) 0)) (not-odd k h)
 
--- the first n places are all of them
-pub paint-every : (s s′ : ℕ → ℕ) (xs : List ℕ) (n : ℕ) → length xs ≤ n → ((k : ℕ) → s k ≡ s′ k) → paint (λ k. ltb k n) s xs ≡ paint every s′ xs
-paint-every s s′ xs n most same = paint-ext _ every s s′ xs (λ k h. lt-ltb k n (omega arith)) (λ k h e. same k)
-
 -- two places more
 pub weave-next : (e o xs : List ℕ) (i : ℕ) → 2 * i + 1 < length xs → set (set (paint (λ k. ltb k (2 * i)) (woven e o) xs) (2 * i) (getD e i 0)) (2 * i + 1) (getD o i 0) ≡ paint (λ k. ltb k (2 * (i + 1))) (woven e o) xs
 weave-next e o xs i h =

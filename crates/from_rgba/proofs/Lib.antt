@@ -6,5 +6,4 @@ pub mod ManyRows
 pub mod Blocks
 pub mod PartRows
 pub mod Padding
-pub mod SoFar
 pub mod Converted

@@ -1,6 +1,7 @@
 -- The laws of the words in specs/: start at Painted.antt and Outcome.antt.
 pub mod Bools
 pub mod Paint
+pub mod SoFar
 pub mod Cells
 pub mod Painted
 pub mod Taken

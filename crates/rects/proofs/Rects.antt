@@ -4,15 +4,15 @@ use Prim.Native.Nat.{ℕ, _+_, _-_, _*_, _/_, _<_, _≤_, min}
 use native.Mathlib.Decide.{decLt}
 use native.Mathlib.Omega.{arith}
 use mathlib.Core.Path.{_≡_, refl, sym, ap, _∙_}
-use mathlib.Core.Bool.{Bool, true, false, true≢false}
+use mathlib.Core.Bool.{true, false, true≢false}
 use mathlib.Core.Logic.{_↔_, inl, inr, ⊎-elim}
 use mathlib.Core.List.{List, [], _∷_}
-use lib.ListN.{length, getD}
-use Rattle.lent.specs.Paint.{painted, some}
+use lib.ListN.{length}
+use Rattle.lent.specs.Paint.{painted}
 use Rattle.lent.specs.Sizes.{roundUp}
 use Rattle.lent.proofs.Bools.{split, never-true}
 use Rattle.lent.proofs.Lists.{some-none, some-more, some-facts, some-holds, some-same}
-use Rattle.lent.proofs.Painted.{painted-none, painted-ext}
+use Rattle.lent.proofs.Painted.{length-painted, painted-none, painted-ext}
 use Rattle.lent.proofs.Taken.{box-facts, box-holds}
 use Rattle.picture.specs.declared.Size.{Size}
 use Rattle.rects.specs.declared.Rect.{Rect}
@@ -21,20 +21,25 @@ use Rattle.rects.specs.Rects.{Rule, rectAtOf, by, nth, takenBy, taken, a
 -- ---- the loop over a list: the plane is painted by what the first n rectangles take
 
 module _ (w h : ℕ) (rule : Rule) (rects : List ℕ) (s : ℕ → ℕ → ℕ) (xs : List ℕ) where
-  pub rects-none : xs ≡ painted w h (takenBy rule rects 0) s xs
+  -- the loop's invariant, where ys is what has become of xs
+  abbrev pub RectsDone : ℕ → List ℕ → ℕ → Type 0
+  RectsDone count ys n = (n ≤ count) × (count ≡ length rects / 4) × (length ys ≡ length xs) × (ys ≡ painted w h (takenBy rule rects n) s xs)
+
+  pub rects-none : RectsDone (length rects / 4) xs 0
   unfolding takenBy
-  rects-none = some-none w h (nth rule rects) s xs
+  rects-none = (omega arith, refl, refl, some-none w h (nth rule rects) s xs)
 
   -- rectangle n was served, where those before it were
-  pub rects-more : {was is : List ℕ} (n : ℕ) (rect : Rect) → rect ≡ rectAtOf rects n → was ≡ painted w h (takenBy rule rects n) s xs
-      → is ≡ painted w h (by rule rect) s was
-      → is ≡ painted w h (takenBy rule rects (n + 1)) s xs
+  pub rects-more : {count : ℕ} {was ys : List ℕ} (n : ℕ) (rect : Rect) → RectsDone count was n → n < count
+      → rect ≡ rectAtOf rects n → ys ≡ painted w h (by rule rect) s was
+      → RectsDone count ys (n + 1)
   unfolding takenBy nth
-  rects-more n rect this before more =
-      more ∙ (λ i. painted w h (by rule (this i)) s (before i)) ∙ some-more w h (nth rule rects) s xs n
+  rects-more n rect before lt this more =
+      let next = more ∙ (λ i. painted w h (by rule (this i)) s (before .3 i)) ∙ some-more w h (nth rule rects) s xs n in
+      (omega arith, before .1, ap length next ∙ length-painted w h _ s xs, next)
 
-  pub rects-all : {is : List ℕ} (n : ℕ) → n ≡ length rects / 4 → is ≡ painted w h (takenBy rule rects n) s xs → is ≡ painted w h (taken rule rects) s xs
-  rects-all n all done = done ∙ ap (λ (m : ℕ). painted w h (takenBy rule rects m) s xs) all
+  pub rects-all : {count : ℕ} {ys : List ℕ} (n : ℕ) → RectsDone count ys n → count ≤ n → ys ≡ painted w h (taken rule rects) s xs
+  rects-all n done end = let all : n ≡ length rects / 4 = omega arith in done .3 ∙ ap (λ (m : ℕ). painted w h (takenBy rule rects m) s xs) all
 
 -- ---- what `taken` means
 
@@ -73,11 +78,12 @@ module _ (w h : ℕ) (rule : Rule) (s : ℕ → ℕ → ℕ) (xs : List ℕ) whe
 
   -- an empty list changes nothing
   pub list-empty : xs ≡ painted w h (taken rule []) s xs
-  list-empty = rects-none w h rule [] s xs
+  list-empty = rects-none w h rule [] s xs .3
 
   -- a list of one rectangle takes what the rule says of it
   pub list-one : (left top right bottom : ℕ) → painted w h (taken rule (left ∷ top ∷ right ∷ bottom ∷ [])) s xs ≡ painted w h (rule left top right bottom) s xs
-  list-one left top right bottom = sym (rects-more w h rule (left ∷ top ∷ right ∷ bottom ∷ []) s xs 0 _ refl (rects-none w h rule _ s xs) refl)
+  list-one left top right bottom =
+      sym (rects-more w h rule (left ∷ top ∷ right ∷ bottom ∷ []) s xs 0 _ (rects-none w h rule _ s xs) (omega arith) refl refl .3)
 
 -- ---- the widened area
 

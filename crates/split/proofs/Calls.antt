@@ -1,13 +1,12 @@
 -- How a split ends: a number that is not 0 leaves the outputs as they were; 0 says that all that is lent is long enough, and leaves
 -- the two views. Assumes nothing.
-use Prim.Native.Nat.{ℕ, _*_, _/_, _≤_}
+use Prim.Native.Nat.{ℕ, _*_, _≤_}
 use native.Mathlib.Omega.{arith}
 use mathlib.Core.Path.{_≡_, refl, sym, ap, _∙_}
-use mathlib.Core.Bool.{Bool, true, false, _||_}
+use mathlib.Core.Bool.{true, false}
 use mathlib.Core.List.{[], _∷_}
 use lib.Dec.{eqb}
-use borrow.Author.Tests.{eq-eqb, ne-eqb, ltb-false}
-use Rattle.lent.specs.Sizes.{tooShort}
+use borrow.Author.Tests.{eq-eqb, ne-eqb}
 use Rattle.lent.proofs.Exactly.{nor}
 use Rattle.picture.specs.declared.Size.{Size}
 use Rattle.picture.specs.Sizes.{strideOf, rowsOf}
@@ -16,27 +15,10 @@ use Rattle.layout.specs.declared.Layout.{Layout}
 use Rattle.split.specs.declared.number.PlaneLengths.{PlaneLengths}
 use Rattle.split.specs.declared.number.Views.{Views}
 use Rattle.split.proofs.Exactly.{split-0-exactly}
-use Rattle.split.specs.Split.{Planes, lengthsOf, mainSample, auxiliarySample, tooLarge, viewShort, splitNumberOf, splitAnswerOf, splitBuffersOf, Written, SplitEnds}
-use Rattle.split_views.specs.Fits.{MacroblocksFit, Room}
+use Rattle.split.proofs.Short.{view-room}
+use Rattle.split.specs.Split.{Planes, lengthsOf, mainSample, auxiliarySample, viewShort, splitNumberOf, splitAnswerOf, splitBuffersOf, Written, SplitEnds}
+use Rattle.split_views.specs.Fits.{MacroblocksFit}
 use Rattle.split.specs.Accepted.{SplitAccepted}
-
--- what 0 says
-module _ (z : Size) (n : PlaneLengths) where
-  abbrev y-short : Bool
-  y-short = tooShort (strideOf z) (rowsOf z) (n .y)
-
-  abbrev u-short : Bool
-  u-short = tooShort (strideOf z / 2) (rowsOf z / 2) (n .u)
-
-  abbrev v-short : Bool
-  v-short = tooShort (strideOf z / 2) (rowsOf z / 2) (n .v)
-
-  pub view-room : viewShort z n ≡ false → Room (n .y) (n .u) (n .v) (strideOf z) (rowsOf z)
-  unfolding viewShort
-  view-room e =
-      let yu = nor (y-short || u-short) v-short .0 e in
-      let y = nor y-short u-short .0 (yu .0) in
-      record { y-room = ltb-false _ _ (y .0); u-room = ltb-false _ _ (y .1); v-room = ltb-false _ _ (yu .1) }
 
 whole-plane : (z : Size) {n : ℕ} → rowsOf z * strideOf z ≤ n → MacroblocksFit n (strideOf z) (rowsOf z)
 whole-plane z fits = record { fits = fits; wide = omega arith; high = omega arith }

@@ -2,10 +2,13 @@
 use Prim.Native.Nat.{_/_}
 use mathlib.Core.Path.{_≡_}
 use mathlib.Core.Bool.{Bool, true, false, _||_}
+use borrow.Author.Tests.{ltb-false}
 use Rattle.lent.specs.Sizes.{tooShort}
 use Rattle.lent.proofs.Bools.{or-left, or-right}
+use Rattle.lent.proofs.Exactly.{nor}
 use Rattle.picture.specs.declared.Size.{Size}
 use Rattle.picture.specs.Sizes.{strideOf, rowsOf}
+use Rattle.split_views.specs.Fits.{Room}
 use Rattle.split.specs.declared.number.PlaneLengths.{PlaneLengths}
 use Rattle.split.specs.Number.{viewShort}
 
@@ -30,3 +33,11 @@ module _ (z : Size) (n : PlaneLengths) where
   pub short-3 : tooShort (strideOf z) (rowsOf z) (n .y) ≡ false → tooShort (strideOf z / 2) (rowsOf z / 2) (n .u) ≡ false → viewShort z n ≡ tooShort (strideOf z / 2) (rowsOf z / 2) (n .v)
   unfolding viewShort
   short-3 e f = rw (e, f)
+
+  -- where none is too short, all that is lent is long enough
+  pub view-room : viewShort z n ≡ false → Room (n .y) (n .u) (n .v) (strideOf z) (rowsOf z)
+  unfolding viewShort
+  view-room e =
+      let yu = nor (y-short || u-short) v-short .0 e in
+      let y = nor y-short u-short .0 (yu .0) in
+      record { y-room = ltb-false _ _ (y .0); u-room = ltb-false _ _ (y .1); v-room = ltb-false _ _ (yu .1) }

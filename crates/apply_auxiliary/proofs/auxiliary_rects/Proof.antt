@@ -1,14 +1,10 @@
 -- `apply_auxiliary::auxiliary_rects` meets its contract. The invariant: the plane is painted by what the first i rectangles take.
 -- Assumes nothing.
 use borrow.Author.Needs.{needs}
-use Prim.Native.Nat.{_/_, _-_, _≤_}
+use Prim.Native.Nat.{_-_}
 use native.Mathlib.Omega.{arith}
-use mathlib.Core.Path.{_≡_, refl, _∙_}
-use lib.ListN.{length}
-use Rattle.lent.specs.Paint.{painted}
 use Rattle.picture.specs.Sizes.{strideOf, rowsOf}
-use Rattle.rects.specs.Rects.{takenBy}
-use Rattle.rects.proofs.Rects.{rects-none, rects-more, rects-all}
+use Rattle.rects.proofs.Rects.{RectsDone, rects-none, rects-more, rects-all}
 use Rattle.apply_auxiliary_rows.specs.Rows.{auxiliarySource}
 use Rattle.apply_auxiliary.specs.Auxiliary.{auxiliaryRule}
 use Rattle.apply_auxiliary.proofs.auxiliary_rects.Statement.{statement}
@@ -16,14 +12,13 @@ use Rattle.apply_auxiliary.proofs.auxiliary_rects.Tie as tie
 
 abbrev Inv-loop : tie.InvT-loop
 Inv-loop layout which plane₀ size rects w vy vu vv count i₀ plane i =
-    (i ≤ count) × (count ≡ length rects / 4) × (length plane ≡ length plane₀)
-    × (plane ≡ painted (strideOf size) (rowsOf size) (takenBy (auxiliaryRule layout size w) rects i) (auxiliarySource layout which w vy vu vv) plane₀)
+    RectsDone (strideOf size) (rowsOf size) (auxiliaryRule layout size w) rects (auxiliarySource layout which w vy vu vv) plane₀ count plane i
 
 abbrev μ-loop : tie.MeasureT-loop
 μ-loop layout which plane₀ size rects w vy vu vv count i₀ plane i = count - i
 
 loop-holds : tie.Need-loop-holds Inv-loop μ-loop
-loop-holds c = (omega arith, refl, refl, rects-none _ _ (auxiliaryRule _ _ _) _ _ _)
+loop-holds c = rects-none _ _ (auxiliaryRule _ _ _) _ _ _
 
 rect-at-requires : tie.Need-rect-at-requires Inv-loop μ-loop
 rect-at-requires c κs = omega arith
@@ -39,20 +34,14 @@ loop-less c = omega arith
 
 loop-again : tie.Need-loop-again Inv-loop μ-loop
 loop-again c =
-    let call = c .before .before .auxiliary-rect in
     let l = c .before .before .before .before .before .before in
-    let a = l .before .before .before .before .before .before .args in (
-      omega arith,
-      refl,
-      call .kept .1 .1 .0 ∙ l .loop .inv .2,
-      rects-more _ _ (auxiliaryRule (a .layout) (a .size) (a .w)) _ _ _ (l .loop .i) _ (c .before .before .before .before .rect-at .ensures) (l .loop .inv .3) (call .ensures),
-    )
+    rects-more _ _ (auxiliaryRule _ _ _) _ _ _ (l .loop .i) _ (l .loop .inv) (omega arith) (c .before .before .before .before .rect-at .ensures) (c .before .before .auxiliary-rect .ensures)
 
 same-length : tie.Need-same-length Inv-loop μ-loop
 same-length c = omega arith
 
 returns : tie.Need-returns Inv-loop μ-loop
-returns c = let l = c .before in rects-all _ _ (auxiliaryRule _ _ _) _ _ _ (l .loop .i) (omega arith) (l .loop .inv .3)
+returns c = let l = c .before in rects-all _ _ (auxiliaryRule _ _ _) _ _ _ (l .loop .i) (l .loop .inv) (omega arith)
 
 pub auxiliary-rects-spec : {M : Type 1} → statement M
 auxiliary-rects-spec =

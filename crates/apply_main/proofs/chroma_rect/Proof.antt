@@ -1,16 +1,16 @@
 -- `apply_main::chroma_rect` meets its contract: the rule is a box of rows, whose edges are the area's, cut by `least` to the view.
 -- Assumes nothing.
 use borrow.Author.Needs.{needs}
-use Prim.Native.Nat.{ℕ, _*_, _/_, _%_, min}
+use Prim.Native.Nat.{_*_, min}
 use native.Mathlib.Omega.{arith}
-use mathlib.Core.Path.{_≡_, refl, sym, ap, _∙_}
+use mathlib.Core.Path.{_≡_, ap, _∙_}
 use denote.Ref.{now}
 use Rattle.lent.specs.Paint.{painted, box, upTo}
 use Rattle.picture.specs.Sizes.{strideOf, rowsOf}
 use Rattle.rects.specs.declared.Area.{Area}
 use Rattle.rects.specs.Rects.{chromaBlockAreaOf}
-use Rattle.apply_main.specs.Main.{mainChroma, halved}
-use Rattle.apply_main.proofs.Main.{chromaEnd, chromaBelow, chroma-box, chroma-asks}
+use Rattle.apply_main.specs.Main.{halved}
+use Rattle.apply_main.proofs.Main.{chromaEnd, chromaBelow, chroma-box, rows-ask}
 use Rattle.apply_main.proofs.RectRows.{box-rows-empty}
 use Rattle.apply_main.proofs.chroma_rect.Statement.{statement}
 use Rattle.apply_main.proofs.chroma_rect.Tie as tie
@@ -55,8 +55,7 @@ chroma-rows-requires : tie.Need-chroma-rows-requires
 chroma-rows-requires c κs =
     let l = c .before .before .before .before in
     let s = start l in
-    let q = s .args .rect in
-    chroma-asks (s .args .size) (s .args .w) (q .left) (q .top) (q .right) (q .bottom) _ _ _ _ _ _ (c .chroma .ensures) (s .pre) (ap (λ (x : Area). x .left) (found l)) (end l) (below l) (c .before .before .if1 .taken)
+    (rows-ask (s .args .size) (c .chroma .ensures) (s .pre) (omega (arith, below l)) (omega arith) (omega (arith, end l)) (omega (arith, end l)), omega (arith, ap (λ (x : Area). x .left) (found l)))
 
 same-length : tie.Need-same-length
 same-length c = c .before .before .chroma-rows .kept .0

@@ -1,28 +1,23 @@
 -- `apply_main::chroma_rects` meets its contract. The invariant: the plane is painted by what the first i rectangles take.
 -- Assumes nothing.
 use borrow.Author.Needs.{needs}
-use Prim.Native.Nat.{ℕ, _/_, _-_, _≤_}
+use Prim.Native.Nat.{_-_}
 use native.Mathlib.Omega.{arith}
-use mathlib.Core.Path.{_≡_, refl, _∙_}
-use lib.ListN.{length}
-use Rattle.lent.specs.Paint.{painted}
 use Rattle.picture.specs.Sizes.{strideOf, rowsOf}
-use Rattle.rects.specs.Rects.{takenBy}
 use Rattle.apply_main.specs.Main.{mainChroma, halved}
-use Rattle.rects.proofs.Rects.{rects-none, rects-more, rects-all}
+use Rattle.rects.proofs.Rects.{RectsDone, rects-none, rects-more, rects-all}
 use Rattle.apply_main.proofs.chroma_rects.Statement.{statement}
 use Rattle.apply_main.proofs.chroma_rects.Tie as tie
 
 abbrev Inv-loop : tie.InvT-loop
 Inv-loop plane₀ size rects w samples count i₀ plane i =
-    (i ≤ count) × (count ≡ length rects / 4) × (length plane ≡ length plane₀)
-    × (plane ≡ painted (strideOf size) (rowsOf size) (takenBy (mainChroma size w) rects i) (halved samples (w .«chroma_stride»)) plane₀)
+    RectsDone (strideOf size) (rowsOf size) (mainChroma size w) rects (halved samples (w .«chroma_stride»)) plane₀ count plane i
 
 abbrev μ-loop : tie.MeasureT-loop
 μ-loop plane₀ size rects w samples count i₀ plane i = count - i
 
 loop-holds : tie.Need-loop-holds Inv-loop μ-loop
-loop-holds c = (omega arith, refl, refl, rects-none _ _ (mainChroma _ _) _ _ _)
+loop-holds c = rects-none _ _ (mainChroma _ _) _ _ _
 
 rect-at-requires : tie.Need-rect-at-requires Inv-loop μ-loop
 rect-at-requires c κs = omega arith
@@ -38,20 +33,14 @@ loop-less c = omega arith
 
 loop-again : tie.Need-loop-again Inv-loop μ-loop
 loop-again c =
-    let call = c .before .before .chroma-rect in
     let l = c .before .before .before .before .before .before in
-    let a = l .before .before .before .before .args in (
-      omega arith,
-      refl,
-      call .kept .0 ∙ l .loop .inv .2,
-      rects-more _ _ (mainChroma (a .size) (a .w)) _ _ _ (l .loop .i) _ (c .before .before .before .rect-at .ensures) (l .loop .inv .3) (call .ensures),
-    )
+    rects-more _ _ (mainChroma _ _) _ _ _ (l .loop .i) _ (l .loop .inv) (omega arith) (c .before .before .before .rect-at .ensures) (c .before .before .chroma-rect .ensures)
 
 same-length : tie.Need-same-length Inv-loop μ-loop
 same-length c = c .before .loop .inv .2
 
 returns : tie.Need-returns Inv-loop μ-loop
-returns c = let l = c .before in rects-all _ _ (mainChroma _ _) _ _ _ (l .loop .i) (omega arith) (l .loop .inv .3)
+returns c = let l = c .before in rects-all _ _ (mainChroma _ _) _ _ _ (l .loop .i) (l .loop .inv) (omega arith)
 
 pub chroma-rects-spec : {M : Type 1} → statement M
 chroma-rects-spec =

@@ -8,7 +8,7 @@ use Rattle.lent.specs.Paint.{painted, box, upTo}
 use Rattle.lent.specs.Samples.{sample}
 use Rattle.picture.specs.Sizes.{strideOf, rowsOf}
 use Rattle.apply_main.specs.Main.{mainLuma}
-use Rattle.apply_main.proofs.Main.{luma-asks}
+use Rattle.apply_main.proofs.Main.{rows-ask}
 use Rattle.apply_main.proofs.RectRows.{box-rows-empty}
 use Rattle.apply_main.proofs.luma_rect.Statement.{statement}
 use Rattle.apply_main.proofs.luma_rect.Tie as tie
@@ -42,8 +42,7 @@ luma-rows-requires c κs =
     let l = c .before .before .before .before in
     let e = l .before .before .before in
     let s = start e in
-    let q = s .args .rect in
-    luma-asks (s .args .size) (s .args .w) (q .left) (q .top) (q .right) (q .bottom) _ _ _ _ _ _ (c .luma .ensures) (s .pre) (e .luma-right .ensures) (l .least .ensures) (c .before .before .before .if1 .taken)
+    rows-ask (s .args .size) (c .luma .ensures) (s .pre) (omega (arith, l .least .ensures)) (omega arith) (omega (arith, e .luma-right .ensures)) (omega (arith, e .luma-right .ensures))
 
 same-length : tie.Need-same-length
 same-length c = c .before .before .luma-rows .kept .0

@@ -1,29 +1,24 @@
 -- `apply_main::luma_rects` meets its contract. The invariant: the plane is painted by what the first i rectangles take.
 -- Assumes nothing.
 use borrow.Author.Needs.{needs}
-use Prim.Native.Nat.{ℕ, _/_, _-_, _≤_}
+use Prim.Native.Nat.{_-_}
 use native.Mathlib.Omega.{arith}
-use mathlib.Core.Path.{_≡_, refl, _∙_}
-use lib.ListN.{length}
-use Rattle.lent.specs.Paint.{painted}
 use Rattle.lent.specs.Samples.{sample}
 use Rattle.picture.specs.Sizes.{strideOf, rowsOf}
-use Rattle.rects.specs.Rects.{takenBy}
 use Rattle.apply_main.specs.Main.{mainLuma}
-use Rattle.rects.proofs.Rects.{rects-none, rects-more, rects-all}
+use Rattle.rects.proofs.Rects.{RectsDone, rects-none, rects-more, rects-all}
 use Rattle.apply_main.proofs.luma_rects.Statement.{statement}
 use Rattle.apply_main.proofs.luma_rects.Tie as tie
 
 abbrev Inv-loop : tie.InvT-loop
 Inv-loop y₀ size rects w vy count i₀ y i =
-    (i ≤ count) × (count ≡ length rects / 4) × (length y ≡ length y₀)
-    × (y ≡ painted (strideOf size) (rowsOf size) (takenBy (mainLuma size w) rects i) (sample vy (w .«luma_stride»)) y₀)
+    RectsDone (strideOf size) (rowsOf size) (mainLuma size w) rects (sample vy (w .«luma_stride»)) y₀ count y i
 
 abbrev μ-loop : tie.MeasureT-loop
 μ-loop y₀ size rects w vy count i₀ y i = count - i
 
 loop-holds : tie.Need-loop-holds Inv-loop μ-loop
-loop-holds c = (omega arith, refl, refl, rects-none _ _ (mainLuma _ _) _ _ _)
+loop-holds c = rects-none _ _ (mainLuma _ _) _ _ _
 
 rect-at-requires : tie.Need-rect-at-requires Inv-loop μ-loop
 rect-at-requires c κs = omega arith
@@ -39,20 +34,14 @@ loop-less c = omega arith
 
 loop-again : tie.Need-loop-again Inv-loop μ-loop
 loop-again c =
-    let call = c .before .before .luma-rect in
     let l = c .before .before .before .before .before .before in
-    let a = l .before .before .before .before .args in (
-      omega arith,
-      refl,
-      call .kept .0 ∙ l .loop .inv .2,
-      rects-more _ _ (mainLuma (a .size) (a .w)) _ _ _ (l .loop .i) _ (c .before .before .before .rect-at .ensures) (l .loop .inv .3) (call .ensures),
-    )
+    rects-more _ _ (mainLuma _ _) _ _ _ (l .loop .i) _ (l .loop .inv) (omega arith) (c .before .before .before .rect-at .ensures) (c .before .before .luma-rect .ensures)
 
 same-length : tie.Need-same-length Inv-loop μ-loop
 same-length c = c .before .loop .inv .2
 
 returns : tie.Need-returns Inv-loop μ-loop
-returns c = let l = c .before in rects-all _ _ (mainLuma _ _) _ _ _ (l .loop .i) (omega arith) (l .loop .inv .3)
+returns c = let l = c .before in rects-all _ _ (mainLuma _ _) _ _ _ (l .loop .i) (l .loop .inv) (omega arith)
 
 pub luma-rects-spec : {M : Type 1} → statement M
 luma-rects-spec =

@@ -1,26 +1,22 @@
 -- `split_rows::firsts` meets its contract. The invariant: the first i bytes are painted.
 -- Assumes nothing.
 use borrow.Author.Needs.{needs}
-use Prim.Native.Nat.{ℕ, _+_, _-_, _*_, _/_, _%_, _<_, _≤_}
+use Prim.Native.Nat.{_-_, _%_, _≤_}
 use native.Mathlib.Omega.{arith}
-use mathlib.Core.Path.{_≡_, refl, sym, ap, _∙_}
-use lib.Dec.{ltb}
-use lib.ListN.{length, getD, length-set}
-use borrow.Author.Tests.{le-ltb, lt-ltb}
-use Rattle.lent.specs.Paint.{paint, every}
-use Rattle.lent.proofs.Paint.{paint-none, paint-next, length-paint}
-use Rattle.columns.proofs.Turns.{paint-every}
+use mathlib.Core.Path.{_≡_, refl}
+use lib.ListN.{length, getD}
+use Rattle.lent.proofs.SoFar.{SoFar, so-far-none, so-far-more, so-far-all}
 use Rattle.split_rows.proofs.firsts.Statement.{statement}
 use Rattle.split_rows.proofs.firsts.Tie as tie
 
 abbrev Inv-loop : tie.InvT-loop
-Inv-loop dst₀ pairs n i₀ dst i = (n ≡ length pairs) × (i ≤ n) × (length dst ≡ length dst₀) × (dst ≡ paint (λ k. ltb k i) (λ k. getD pairs k 0 % 256) dst₀)
+Inv-loop dst₀ pairs n i₀ dst i = (n ≡ length pairs) × (i ≤ n) × SoFar (λ k. getD pairs k 0 % 256) dst₀ dst i
 
 abbrev μ-loop : tie.MeasureT-loop
 μ-loop dst₀ pairs n i₀ dst i = n - i
 
 loop-holds : tie.Need-loop-holds Inv-loop μ-loop
-loop-holds c = (refl, omega arith, refl, paint-none _ _ _ (λ k h. le-ltb k 0 (omega arith)))
+loop-holds c = (refl, omega arith, so-far-none _ _)
 
 mul-dst : tie.Need-mul-dst Inv-loop μ-loop
 mul-dst c = search needs
@@ -41,15 +37,13 @@ loop-less : tie.Need-loop-less Inv-loop μ-loop
 loop-less c = omega arith
 
 loop-again : tie.Need-loop-again Inv-loop μ-loop
-loop-again c =
-    let l = c .before .before in
-    (refl, omega arith, simp length-set (omega arith), rw (l .loop .inv .3) (paint-next _ _ (l .loop .i) _ (omega arith) refl))
+loop-again c = let l = c .before .before in (refl, omega arith, so-far-more _ _ (l .loop .i) (l .loop .inv .2) (omega arith) refl)
 
 same-length : tie.Need-same-length Inv-loop μ-loop
 same-length c = omega arith
 
 returns : tie.Need-returns Inv-loop μ-loop
-returns c = let l = c .before in l .loop .inv .3 ∙ paint-every _ _ _ (l .loop .i) (omega arith) (λ k. refl)
+returns c = let l = c .before in so-far-all _ _ (l .loop .i) (l .loop .inv .2) (omega arith)
 
 pub firsts-spec : {M : Type 1} → statement M
 firsts-spec =

@@ -1,22 +1,18 @@
 -- `split_rows::fourths_row` meets its contract. The invariant: the bytes below `at` are written.
 -- Assumes nothing.
 use borrow.Author.Needs.{needs}
-use Prim.Native.Nat.{ℕ, _+_, _-_, _*_, _/_, _%_, _<_, _≤_}
+use Prim.Native.Nat.{_+_, _-_, _*_, _≤_}
 use native.Mathlib.Omega.{arith}
-use mathlib.Core.Path.{_≡_, refl, sym, ap, _∙_}
-use lib.Dec.{ltb}
-use lib.ListN.{length, getD, length-set}
-use borrow.Author.Tests.{le-ltb, lt-ltb}
-use Rattle.lent.specs.Paint.{paint, every}
+use mathlib.Core.Path.{_≡_, refl}
+use lib.ListN.{length}
 use Rattle.lent.specs.Samples.{sample}
-use Rattle.lent.proofs.Paint.{paint-none, paint-next, length-paint}
-use Rattle.columns.proofs.Turns.{paint-every}
-use Rattle.split_rows.proofs.Rows.{picked-next}
+use Rattle.lent.proofs.SoFar.{SoFar, so-far-none, so-far-all}
+use Rattle.split_rows.proofs.Rows.{picked-more}
 use Rattle.split_rows.proofs.fourths_row.Statement.{statement}
 use Rattle.split_rows.proofs.fourths_row.Tie as tie
 
 abbrev Inv-loop : tie.InvT-loop
-Inv-loop out₀ plane stride row first line n at₀ out at = (n ≡ length out₀) × (at ≤ n) × (length out ≡ length out₀) × (out ≡ paint (λ k. ltb k at) (λ k. sample plane stride row (4 * k + first)) out₀)
+Inv-loop out₀ plane stride row first line n at₀ out at = (n ≡ length out₀) × (at ≤ n) × SoFar (λ k. sample plane stride row (4 * k + first)) out₀ out at
 
 abbrev μ-loop : tie.MeasureT-loop
 μ-loop out₀ plane stride row first line n at₀ out at = n - at
@@ -25,7 +21,7 @@ mul-line : tie.Need-mul-line Inv-loop μ-loop
 mul-line c = search needs
 
 loop-holds : tie.Need-loop-holds Inv-loop μ-loop
-loop-holds c = (refl, omega arith, refl, paint-none _ _ _ (λ k h. le-ltb k 0 (omega arith)))
+loop-holds c = (refl, omega arith, so-far-none _ _)
 
 sub-least : tie.Need-sub-least Inv-loop μ-loop
 sub-least c = search needs
@@ -78,15 +74,13 @@ loop-again c =
     let l = p .before .before .before .before .before in
     let s = l .before .before .before in
     let a = s .args in
-    let end : ℕ = l .loop .at + p .before .before .before .least .result in
-    let next = picked-next 4 (a .stride) (a .row) (a .first) (a .plane .now) (a .out .now) (l .loop .out) _ (l .loop .at) end (omega arith) (omega arith) (l .loop .inv .3) (p .fourths-part .ensures) (λ j h. omega (arith, s .pre .1)) (λ j. omega arith) in
-    (refl, omega arith, ap length next ∙ length-paint _ _ _, next)
+    (refl, omega arith, picked-more 4 (a .stride) (a .row) (a .first) (a .plane .now) (a .out .now) (l .loop .out) _ (l .loop .at) _ (s .pre .1) (omega arith) (omega arith) (l .loop .inv .2) (p .fourths-part .ensures))
 
 same-length : tie.Need-same-length Inv-loop μ-loop
 same-length c = omega arith
 
 returns : tie.Need-returns Inv-loop μ-loop
-returns c = let l = c .before in l .loop .inv .3 ∙ paint-every _ _ _ (l .loop .at) (omega arith) (λ k. refl)
+returns c = let l = c .before in so-far-all _ _ (l .loop .at) (l .loop .inv .2) (omega arith)
 
 pub fourths-row-spec : {M : Type 1} → statement M
 fourths-row-spec =

@@ -1,26 +1,22 @@
 -- `split_rows::pair` meets its contract. The invariant: the pairs below i are made.
 -- Assumes nothing.
 use borrow.Author.Needs.{needs}
-use Prim.Native.Nat.{ℕ, _+_, _-_, _*_, _/_, _%_, _<_, _≤_}
+use Prim.Native.Nat.{_+_, _-_, _*_, _≤_}
 use native.Mathlib.Omega.{arith}
-use mathlib.Core.Path.{_≡_, refl, sym, ap, _∙_}
-use lib.Dec.{ltb}
-use lib.ListN.{length, getD, length-set}
-use borrow.Author.Tests.{le-ltb, lt-ltb}
-use Rattle.lent.specs.Paint.{paint, every}
-use Rattle.lent.proofs.Paint.{paint-none, paint-next, length-paint}
+use mathlib.Core.Path.{_≡_}
+use Rattle.lent.proofs.SoFar.{SoFar, so-far-none, so-far-more}
 use Rattle.split_rows.specs.Pairs.{pairOf}
 use Rattle.split_rows.proofs.pair.Statement.{statement}
 use Rattle.split_rows.proofs.pair.Tie as tie
 
 abbrev Inv-loop : tie.InvT-loop
-Inv-loop pairs₀ src n i₀ pairs i = (i ≤ n) × (length pairs ≡ length pairs₀) × (pairs ≡ paint (λ k. ltb k i) (pairOf src) pairs₀)
+Inv-loop pairs₀ src n i₀ pairs i = (i ≤ n) × SoFar (pairOf src) pairs₀ pairs i
 
 abbrev μ-loop : tie.MeasureT-loop
 μ-loop pairs₀ src n i₀ pairs i = n - i
 
 loop-holds : tie.Need-loop-holds Inv-loop μ-loop
-loop-holds c = (omega arith, refl, paint-none _ _ _ (λ k h. le-ltb k 0 (omega arith)))
+loop-holds c = (omega arith, so-far-none _ _)
 
 mul-wide : tie.Need-mul-wide Inv-loop μ-loop
 mul-wide c = search needs
@@ -65,7 +61,7 @@ loop-again : tie.Need-loop-again Inv-loop μ-loop
 unfolding pairOf
 loop-again c =
     let l = c .before .before .before .before .before in
-    (omega arith, simp length-set (omega arith), rw (l .loop .inv .2) (paint-next _ _ (l .loop .i) _ (omega arith) (λ i. c .before .before .wide .ensures .0 i + 256 * c .wide2 .ensures .0 i)))
+    (omega arith, so-far-more _ _ (l .loop .i) (l .loop .inv .1) (omega arith) (λ i. c .before .before .wide .ensures .0 i + 256 * c .wide2 .ensures .0 i))
 
 same-length : tie.Need-same-length Inv-loop μ-loop
 same-length c = search needs
@@ -74,7 +70,7 @@ returns : tie.Need-returns Inv-loop μ-loop
 returns c =
     let l = c .before in
     let done : l .loop .i ≡ l .before .before .before .args .n = omega arith in
-    rw done at (l .loop .inv .2)
+    rw done at (l .loop .inv .1 .1)
 
 pub pair-spec : {M : Type 1} → statement M
 pair-spec =

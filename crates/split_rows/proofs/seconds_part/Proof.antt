@@ -2,8 +2,7 @@
 -- Assumes nothing.
 use borrow.Author.Needs.{needs}
 use native.Mathlib.Omega.{arith}
-use mathlib.Core.Path.{refl, _∙_}
-use Rattle.columns.proofs.Turns.{paint-every}
+use Rattle.lent.proofs.SoFar.{so-far-all}
 use Rattle.split_rows.proofs.seconds_part.Statement.{statement}
 use Rattle.split_rows.proofs.seconds_part.Tie as tie
 
@@ -23,7 +22,7 @@ same-length-2 : tie.Need-same-length-2
 same-length-2 c = search needs
 
 returns-2 : tie.Need-returns-2
-returns-2 c = c .before .before .seconds .ensures ∙ paint-every _ _ _ _ (omega arith) (λ k. refl)
+returns-2 c = let call = c .before .before .seconds in so-far-all _ _ _ (call .kept .0, call .ensures) (omega arith)
 
 pub seconds-part-spec : {M : Type 1} → statement M
 seconds-part-spec =

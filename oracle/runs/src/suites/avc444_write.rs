@@ -4,7 +4,7 @@
 use std::hint::black_box;
 
 use crate::bench::{Pass, Weighing};
-use crate::ours::{self, Parts};
+use crate::ours::{self, Given};
 use crate::random::Random;
 
 pub const DATA: Weighing = Weighing {
@@ -64,14 +64,14 @@ impl Stream {
         }
     }
 
-    fn parts(&self) -> Parts<'_> {
-        Parts { rects: &self.rects, pairs: &self.pairs, data: &self.data }
+    fn given(&self) -> Given<'_> {
+        Given { rects: &self.rects, pairs: &self.pairs, data: &self.data }
     }
 }
 
 #[inline(never)]
 fn write(luma: &Stream, chroma: &Stream, out: &mut [u8]) -> u64 {
-    let answer = ours::avc444_write(0, luma.parts(), chroma.parts(), out);
+    let answer = ours::avc444_write(0, luma.given(), chroma.given(), out);
     assert!(answer.number == 0 && answer.count == out.len(), "the parts are good, and there is room");
     u64::from(out[out.len() - 1])
 }

@@ -28,7 +28,7 @@ random: sizes to 300 by 300",
 
 const LAYOUTS: [Avc444Layout; 2] = [Avc444Layout::V1, Avc444Layout::V2];
 
-type Splitting = fn(Size, [&[u8]; 3], [&mut [u8]; 6]) -> Views;
+type Splitting = fn(Size, [&[u8]; 3], [&mut [u8]; 3], [&mut [u8]; 3]) -> Views;
 type Applying = fn(Size, [&mut [u8]; 3], &[u16], View<'_>) -> u32;
 
 /// Pixels that `place` picks, and the way they go.
@@ -119,7 +119,8 @@ impl Case {
         let mut numbers = vec![ours::from_rgba(pixels, size, planes.lent())];
 
         let mut outputs = Outputs::exact(&Sizes::exact(size.width, size.height)).0.map(|length| vec![0; length]);
-        let views = split(size, planes.lent().map(|plane| &*plane), outputs.each_mut().map(Vec::as_mut_slice));
+        let [y, u, v, aux_y, aux_u, aux_v] = outputs.each_mut().map(Vec::as_mut_slice);
+        let views = split(size, planes.lent().map(|plane| &*plane), [y, u, v], [aux_y, aux_u, aux_v]);
         let [y, u, v, aux_y, aux_u, aux_v] = outputs.each_ref().map(Vec::as_slice);
         let (main, auxiliary) = (self.our_view(&views, [y, u, v]), self.our_view(&views, [aux_y, aux_u, aux_v]));
         numbers.push(views.number);

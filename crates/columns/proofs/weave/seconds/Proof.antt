@@ -3,22 +3,19 @@
 use Prim.Native.Nat.{_+_, _*_, _≤_, _-_}
 use native.Mathlib.Omega.{arith}
 use mathlib.Core.Path.{_≡_, refl}
-use lib.Dec.{ltb}
-use lib.ListN.{length, getD, length-set}
-use borrow.Author.Tests.{le-ltb}
-use Rattle.lent.specs.Paint.{paint}
-use Rattle.lent.proofs.Paint.{paint-none, paint-next}
+use lib.ListN.{getD}
+use Rattle.lent.proofs.SoFar.{SoFar, so-far-none, so-far-more}
 use Rattle.columns.proofs.weave.seconds.Statement.{statement}
 use Rattle.columns.proofs.weave.seconds.Tie as tie
 
 abbrev Inv-loop : tie.InvT-loop
-Inv-loop dst₀ src first n i₀ dst i = (i ≤ n) × (length dst ≡ length dst₀) × (dst ≡ paint (λ k. ltb k i) (λ k. getD src (2 * k + first) 0) dst₀)
+Inv-loop dst₀ src first n i₀ dst i = (i ≤ n) × SoFar (λ k. getD src (2 * k + first) 0) dst₀ dst i
 
 abbrev μ-loop : tie.MeasureT-loop
 μ-loop dst₀ src first n i₀ dst i = n - i
 
 loop-holds : tie.Need-loop-holds Inv-loop μ-loop
-loop-holds c = (omega arith, refl, paint-none _ _ _ (λ k h. le-ltb k 0 (omega arith)))
+loop-holds c = (omega arith, so-far-none _ _)
 
 mul-dst : tie.Need-mul-dst Inv-loop μ-loop
 mul-dst c = omega arith
@@ -39,9 +36,7 @@ loop-less : tie.Need-loop-less Inv-loop μ-loop
 loop-less c = omega arith
 
 loop-again : tie.Need-loop-again Inv-loop μ-loop
-loop-again c =
-    let l = c .before .before in
-    (omega arith, simp length-set (omega arith), rw (l .loop .inv .2) (paint-next _ _ (l .loop .i) _ (omega arith) refl))
+loop-again c = let l = c .before .before in (omega arith, so-far-more _ _ (l .loop .i) (l .loop .inv .1) (omega arith) refl)
 
 same-length : tie.Need-same-length Inv-loop μ-loop
 same-length c = omega arith
@@ -50,7 +45,7 @@ returns : tie.Need-returns Inv-loop μ-loop
 returns c =
     let l = c .before in
     let done : l .loop .i ≡ l .before .args .n = omega arith in
-    rw done at (l .loop .inv .2)
+    rw done at (l .loop .inv .1 .1)
 
 pub seconds-spec : {M : Type 1} → statement M
 seconds-spec =

@@ -6,7 +6,7 @@ use native.Mathlib.Omega.{arith}
 use mathlib.Core.Path.{ap}
 use Rattle.colour.specs.declared.Yuv.{Yuv}
 use Rattle.from_rgba.specs.Rows.{colourAt}
-use Rattle.from_rgba.proofs.SoFar.{SoFar, so-far-none, so-far-next, so-far-all}
+use Rattle.lent.proofs.SoFar.{SoFar, so-far-none, so-far-more, so-far-all}
 use Rattle.from_rgba.proofs.rows.forward_row.Statement.{statement}
 use Rattle.from_rgba.proofs.rows.forward_row.Tie as tie
 
@@ -67,9 +67,9 @@ unfolding colourAt
 loop-again c =
     let l = c .before .before .before .before .before in
     let p = c .forward .ensures in (
-      so-far-next _ _ (l .loop .i) (l .loop .inv .0) (omega arith) (ap (λ (q : Yuv). q .y) p),
-      so-far-next _ _ (l .loop .i) (l .loop .inv .1) (omega arith) (ap (λ (q : Yuv). q .u) p),
-      so-far-next _ _ (l .loop .i) (l .loop .inv .2) (omega arith) (ap (λ (q : Yuv). q .v) p),
+      so-far-more _ _ (l .loop .i) (l .loop .inv .0) (omega arith) (ap (λ (q : Yuv). q .y) p),
+      so-far-more _ _ (l .loop .i) (l .loop .inv .1) (omega arith) (ap (λ (q : Yuv). q .u) p),
+      so-far-more _ _ (l .loop .i) (l .loop .inv .2) (omega arith) (ap (λ (q : Yuv). q .v) p),
     )
 
 same-length : tie.Need-same-length Inv-loop μ-loop

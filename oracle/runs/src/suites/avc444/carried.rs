@@ -3,7 +3,7 @@
 use original::pdu::{Avc420BitmapStream, Avc444BitmapStream, Encoding};
 
 use crate::answer::{beginning, first_difference, picked, Answer};
-use crate::ours::{self, Pair, Rectangle};
+use crate::ours::{self, Given, Pair, Places, Rectangle};
 
 /// The number of a refusal, or the kind, and of luma and then of chroma the rectangles (left, top, right, bottom, little-endian), the
 /// pairs and the H.264 bytes; empty where a stream is not carried. Bit 6 of a quantiser byte is 0: the original drops it.
@@ -33,8 +33,8 @@ impl Carried {
     }
 
     /// What was lent to be written.
-    pub fn lent(kind: u32, luma: ours::Parts<'_>, chroma: ours::Parts<'_>) -> Self {
-        let parts = |is: bool, stream: ours::Parts<'_>| {
+    pub fn lent(kind: u32, luma: Given<'_>, chroma: Given<'_>) -> Self {
+        let parts = |is: bool, stream: Given<'_>| {
             if !is {
                 return Default::default();
             }
@@ -77,7 +77,7 @@ pub fn little_endian(numbers: &[u16]) -> Vec<u8> {
 
 fn our_parts(
     payload: &[u8],
-    stream: ours::Stream,
+    stream: Places,
     rectangle: fn(&[u8], usize) -> Rectangle,
     pair: fn(&[u8], usize) -> Pair,
 ) -> [Vec<u8>; 3] {

@@ -6,7 +6,7 @@ use original::pdu::{Avc420BitmapStream, Avc444BitmapStream, Encoding, QuantQuali
 use original::{Encode as _, Error, WriteCursor};
 
 use super::carried::unreserved;
-use crate::ours::Parts;
+use crate::ours::Given;
 use crate::outcome::Lent;
 use crate::random::Random;
 use crate::suites::lists;
@@ -129,8 +129,8 @@ impl Stream {
         Self { rects, pairs, data }
     }
 
-    pub fn parts(&self) -> Parts<'_> {
-        Parts { rects: &self.rects, pairs: &self.pairs, data: &self.data }
+    pub fn given(&self) -> Given<'_> {
+        Given { rects: &self.rects, pairs: &self.pairs, data: &self.data }
     }
 
     /// Where its first pair with bit 6 starts, from the stream's first byte on.

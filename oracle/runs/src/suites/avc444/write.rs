@@ -128,7 +128,7 @@ fn check(run: &mut Run, case: &Case) -> Vec<Row> {
     let streams = Streams::new(case);
     let mut output = Lent::new(case.output);
     let ours::Answer { number, count } =
-        ours::avc444_write(case.kind, streams.luma.parts(), streams.chroma.parts(), output.lent());
+        ours::avc444_write(case.kind, streams.luma.given(), streams.chroma.given(), output.lent());
     let written = output.lent().get(..count).unwrap_or_default().to_vec();
 
     let mut rows = Vec::new();
@@ -138,7 +138,7 @@ fn check(run: &mut Run, case: &Case) -> Vec<Row> {
     run.compare(&ours, &theirs, case.weight(), || case.words());
 
     if number == 0 {
-        let lent = run.ours(Carried::lent(case.kind, streams.luma.parts(), streams.chroma.parts()));
+        let lent = run.ours(Carried::lent(case.kind, streams.luma.given(), streams.chroma.given()));
         run.compare(&lent, &decoded(&written), case.weight(), || case.words());
     }
     rows

@@ -39,7 +39,7 @@ fn pass(call: &'static Call, width: u16, height: u16) -> Pass {
     let mut outputs = Outputs::exact(&sizes).0.map(|length| vec![0; length]);
     Pass::new(u64::from(width) * u64::from(height), move || {
         let planes = planes.each_ref().map(|plane| black_box(plane.as_slice()));
-        let views = (call.ours)(sizes.size, planes, outputs.each_mut().map(Vec::as_mut_slice));
+        let views = call.ours(sizes.size, planes, outputs.each_mut().map(Vec::as_mut_slice));
         let Views { number, width, height, luma_stride, chroma_stride } = views;
         let plane = |at: usize, stride: usize, rows: u16| few(rows.into(), |row| outputs[at].get(row * stride..));
         let sums = [0, 3].map(|first| {

@@ -11,12 +11,20 @@ use crate::suites::lengths;
 use crate::suites::pictures::Sizes;
 use crate::suites::views::{rows_of, Source, LONGEST};
 
-type OurCall = fn(Size, [&[u8]; 3], [&mut [u8]; 6]) -> Views;
+type OurCall = fn(Size, [&[u8]; 3], [&mut [u8]; 3], [&mut [u8]; 3]) -> Views;
 
 /// The same call of both sides.
 pub struct Call {
     pub ours: OurCall,
     pub layout: Avc444Layout,
+}
+
+impl Call {
+    /// Ours, with the outputs in the order of `Outputs`.
+    pub fn ours(&self, size: Size, planes: [&[u8]; 3], outputs: [&mut [u8]; 6]) -> Views {
+        let [y, u, v, aux_y, aux_u, aux_v] = outputs;
+        (self.ours)(size, planes, [y, u, v], [aux_y, aux_u, aux_v])
+    }
 }
 
 /// The lengths of the outputs: the main view's Y, U and V, and the auxiliary view's.
@@ -109,7 +117,7 @@ impl<'a> Case<'a> {
     }
 
     fn our_answer(&self, mut outputs: [Lent; 6]) -> Split {
-        let views = (self.call.ours)(self.sizes.size, self.planes, outputs.each_mut().map(Lent::lent));
+        let views = self.call.ours(self.sizes.size, self.planes, outputs.each_mut().map(Lent::lent));
         Split::new(views, outputs)
     }
 

@@ -37,7 +37,7 @@ fn number_sides() -> Sides {
         calls: CALLS,
         ours: Box::new(move || {
             let view = black_box(source.view(&sizes));
-            (0..CALLS).map(|_| u64::from(ours::number(view))).sum()
+            (0..CALLS).map(|_| u64::from(ours::view_number(view))).sum()
         }),
         theirs: Box::new(move || {
             let view = black_box(same.view(&sizes));

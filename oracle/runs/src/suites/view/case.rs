@@ -57,7 +57,7 @@ impl<'a> Case<'a> {
     }
 
     pub fn check_number(&self, run: &mut Run) {
-        let number = run.ours(ours::number(self.view));
+        let number = run.ours(ours::view_number(self.view));
         run.refused(number);
         let theirs = self.theirs.as_ref().err().copied().unwrap_or(0);
         run.compare(&number, &theirs, self.sizes.weight(0), || format!("{} 0 0", self.sizes.words()));

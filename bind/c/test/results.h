@@ -1,0 +1,203 @@
+/* A call for each result type and each list of parameters: a result or an argument that this machine passes in another way than the
+ * library does would crash or be wrong here. oracle/calls.c runs these before anything else links the library, test.c before its other
+ * checks. Answers are worked by hand. The file that includes this one has `check`. */
+#ifndef RESULTS_H
+#define RESULTS_H
+
+#include <string.h>
+
+#include "../haythaw.h"
+
+static void check(bool holds, const char *call, const char *what);
+
+/* A view of 3 by 2 with strides 4 and 2: its second luma row stands at 4. */
+static void result_of_view(void)
+{
+    uint8_t y[8] = {0}, u[2] = {0}, v[2] = {0};
+    check(haythaw_view(3, 2, 4, 2, y, 8, u, 2, v, 2) == HAYTHAW_DONE, "view", "a number");
+    check(haythaw_view(3, 2, 4, 2, y, 8, u, 2, v, 1) == HAYTHAW_VIEW_SHORT, "view", "a refusal");
+
+    haythaw_row second = haythaw_luma_row(3, 2, 4, 2, y, 8, u, 2, v, 2, 1);
+    check(second.number == HAYTHAW_DONE && second.present && second.start == 4 && second.length == 3, "luma_row", "a row");
+    haythaw_row third = haythaw_luma_row(3, 2, 4, 2, y, 8, u, 2, v, 2, 2);
+    check(third.number == HAYTHAW_DONE && !third.present && third.start == 0 && third.length == 0, "luma_row", "an absent row");
+}
+
+static void result_of_payload(void)
+{
+    const uint8_t units[6] = {0, 0, 0, 2, 0x67, 0x42}, annex_b[6] = {0, 0, 0, 1, 0x67, 0x42};
+    check(haythaw_is_avc_format(units, 6), "is_avc_format", "yes");
+    check(!haythaw_is_avc_format(units, 5), "is_avc_format", "no");
+
+    uint8_t out[6] = {0};
+    haythaw_answer answer = haythaw_avc_to_annex_b(units, 6, out, 5);
+    check(answer.number == HAYTHAW_OUTPUT_SHORT && answer.count == 0, "avc_to_annex_b", "a refusal");
+    answer = haythaw_avc_to_annex_b(units, 6, out, 6);
+    check(answer.number == HAYTHAW_DONE && answer.count == 6 && memcmp(out, annex_b, 6) == 0, "avc_to_annex_b", "an answer");
+}
+
+/* A payload of kind 2, chroma alone: a rectangle at 8, its pair at 16, and one H.264 byte at 18. */
+static void result_of_avc444(void)
+{
+    const uint8_t chroma[19] = {0, 0, 0, 0x80, 1, 0, 0, 0, 1, 2, 3, 4, 5, 6, 7, 8, 0xC9, 10, 11};
+    haythaw_avc444 read = haythaw_avc444_read(chroma, 19);
+    check(read.number == HAYTHAW_DONE && read.kind == 2, "avc444_read", "number and kind");
+    check(read.luma.count == 0 && read.luma.rects == 0 && read.luma.pairs == 0 && read.luma.data == 0 && read.luma.length == 0,
+          "avc444_read", "the stream that is not carried");
+    check(read.chroma.count == 1 && read.chroma.rects == 8 && read.chroma.pairs == 16 && read.chroma.data == 18 && read.chroma.length == 1,
+          "avc444_read", "the stream");
+    read = haythaw_avc444_read(chroma, 17);
+    check(read.number == HAYTHAW_STREAM_SHORT && read.kind == 0 && read.chroma.count == 0, "avc444_read", "a refusal");
+
+    haythaw_rectangle first = haythaw_avc444_chroma_rectangle(chroma, 19, 0), second = haythaw_avc444_chroma_rectangle(chroma, 19, 1);
+    check(first.number == HAYTHAW_DONE && first.present && first.left == 0x201 && first.top == 0x403 && first.right == 0x605 &&
+              first.bottom == 0x807,
+          "avc444_chroma_rectangle", "a rectangle");
+    check(second.number == HAYTHAW_DONE && !second.present && second.bottom == 0, "avc444_chroma_rectangle", "an absent rectangle");
+    haythaw_pair pair = haythaw_avc444_chroma_pair(chroma, 19, 0);
+    check(pair.number == HAYTHAW_DONE && pair.present && pair.value == 9 && pair.reserved && pair.progressive && pair.quality == 10,
+          "avc444_chroma_pair", "a pair");
+
+    uint16_t out[5] = {7, 7, 7, 7, 7};
+    haythaw_answer answer = haythaw_avc444_chroma_rects(chroma, 19, out, 3);
+    check(answer.number == HAYTHAW_OUTPUT_SHORT && answer.count == 0 && out[0] == 7, "avc444_chroma_rects", "a refusal");
+    answer = haythaw_avc444_chroma_rects(chroma, 19, out, 5);
+    check(answer.number == HAYTHAW_DONE && answer.count == 4 && out[0] == 0x201 && out[3] == 0x807 && out[4] == 7,
+          "avc444_chroma_rects", "a copy");
+}
+
+/* A payload of kind 0 is written, of six parts that all differ: luma is 4 + 8 + 2 + 3 = 17 bytes, chroma 4 + 16 + 4 + 1 = 25. */
+static void result_of_write(void)
+{
+    const uint16_t luma_rects[4] = {1, 2, 3, 260}, chroma_rects[8] = {5, 6, 7, 8, 9, 10, 11, 65535};
+    const uint8_t luma_pairs[2] = {0xD6, 100}, chroma_pairs[4] = {12, 13, 14, 15}, luma_data[3] = {16, 17, 18}, chroma_data[1] = {19};
+    const uint8_t both[47] = {17, 0, 0, 0, 1, 0, 0, 0, 1, 0, 2, 0, 3, 0, 4, 1, 0xD6, 100, 16, 17, 18,
+                              2, 0, 0, 0, 5, 0, 6, 0, 7, 0, 8, 0, 9, 0, 10, 0, 11, 0, 255, 255, 12, 13, 14, 15, 19, 7};
+    uint8_t out[47];
+    memset(out, 7, 47);
+    haythaw_answer answer = haythaw_avc444_write(0, luma_rects, 4, luma_pairs, 2, luma_data, 3, chroma_rects, 8, chroma_pairs, 4,
+                                                 chroma_data, 1, out, 45);
+    check(answer.number == HAYTHAW_OUTPUT_SHORT && answer.count == 0 && out[0] == 7 && out[44] == 7, "avc444_write", "a refusal");
+    answer = haythaw_avc444_write(0, luma_rects, 4, luma_pairs, 2, luma_data, 3, chroma_rects, 8, chroma_pairs, 4,
+                                  chroma_data, 1, out, 47);
+    check(answer.number == HAYTHAW_DONE && answer.count == 46 && memcmp(out, both, 47) == 0, "avc444_write", "a payload");
+}
+
+/* A picture of 2 by 1 with planes of 256 bytes. */
+static void result_of_picture(void)
+{
+    static uint8_t y[256], u[256], v[256];
+    check(haythaw_allocation_size(65535, 65535) == (size_t)3 << 32, "allocation_size", "a size");
+
+    memset(y, 1, 256);
+    check(haythaw_new(2, 1, y, 256, u, 256, v, 255) == HAYTHAW_PLANE_SHORT && y[0] == 1 && u[0] == 0, "new", "a refusal");
+    check(haythaw_new(2, 1, y, 256, u, 256, v, 256) == HAYTHAW_DONE && y[0] == 0 && u[255] == 128 && v[0] == 128, "new", "a picture");
+
+    const uint8_t rgba[8] = {255, 0, 0, 255, 0, 255, 0, 255};
+    check(haythaw_from_rgba(rgba, 7, 2, 1, y, 256, u, 256, v, 256) == HAYTHAW_RGBA_SHORT, "from_rgba", "a refusal");
+    check(haythaw_from_rgba(rgba, 8, 2, 1, y, 256, u, 256, v, 256) == HAYTHAW_DONE, "from_rgba", "a number");
+    check(y[0] == 53 && y[1] == 182 && u[0] == 96 && u[1] == 29 && v[0] == 131 && v[1] == 12, "from_rgba", "a picture");
+
+    uint8_t out[8] = {0};
+    const uint8_t pixels[8] = {252, 0, 0, 255, 0, 254, 0, 255};
+    haythaw_answer answer = haythaw_to_rgba(2, 1, y, 256, u, 256, v, 256, 0, 0, 9, 9, out, 7);
+    check(answer.number == HAYTHAW_OUTPUT_SHORT && answer.count == 0, "to_rgba", "a refusal");
+    answer = haythaw_to_rgba(2, 1, y, 256, u, 256, v, 256, 0, 0, 9, 9, out, 8);
+    check(answer.number == HAYTHAW_DONE && answer.count == 8 && memcmp(out, pixels, 8) == 0, "to_rgba", "an answer");
+}
+
+/* A view of 1 by 1 goes into a picture of 2 by 1, and to RGBA. */
+static void result_of_main_view(void)
+{
+    static uint8_t y[256], u[256], v[256];
+    const uint8_t view_y[1] = {53}, view_u[1] = {99}, view_v[1] = {255}, pixel[4] = {252, 0, 0, 255};
+    const uint16_t rects[4] = {0, 0, 2, 1};
+    check(haythaw_apply_main_view(2, 1, y, 256, u, 256, v, 256, rects, 3, 1, 1, 1, 1, view_y, 1, view_u, 1, view_v, 1) ==
+              HAYTHAW_LIST_UNEVEN,
+          "apply_main_view", "a refusal");
+    check(haythaw_apply_main_view(2, 1, y, 256, u, 256, v, 256, rects, 4, 1, 1, 1, 1, view_y, 1, view_u, 1, view_v, 1) == HAYTHAW_DONE,
+          "apply_main_view", "a number");
+    check(y[0] == 53 && y[1] == 0 && u[0] == 99 && u[1] == 0 && u[16] == 0 && v[0] == 255, "apply_main_view", "a picture");
+
+    uint8_t out[4] = {0};
+    haythaw_answer answer = haythaw_view_to_rgba(1, 1, 1, 1, view_y, 1, view_u, 1, view_v, 1, out, 4);
+    check(answer.number == HAYTHAW_DONE && answer.count == 4 && memcmp(out, pixel, 4) == 0, "view_to_rgba", "an answer");
+}
+
+/* Views in which U of an odd column, V of an odd column and so on are each a number of their own go into a picture of 2 by 2. */
+static void result_of_auxiliary_views(void)
+{
+    static uint8_t y[256], u[256], v[256];
+    const uint16_t rects[4] = {0, 0, 2, 2};
+
+    /* V1: the odd row comes from luma rows 0 and 8 of a view of 2 by 9. */
+    uint8_t rows[18] = {11, 12};
+    rows[16] = 21;
+    rows[17] = 22;
+    const uint8_t odd_u[5] = {13}, odd_v[5] = {23};
+    check(haythaw_apply_auxiliary_v1(2, 2, y, 256, u, 256, v, 255, rects, 4, 2, 9, 2, 1, rows, 18, odd_u, 5, odd_v, 5) ==
+              HAYTHAW_PLANE_SHORT,
+          "apply_auxiliary_v1", "a refusal");
+    check(haythaw_apply_auxiliary_v1(2, 2, y, 256, u, 256, v, 256, rects, 4, 2, 9, 2, 1, rows, 18, odd_u, 5, odd_v, 5) == HAYTHAW_DONE,
+          "apply_auxiliary_v1", "a number");
+    check(u[0] == 0 && u[1] == 13 && u[16] == 11 && u[17] == 12 && u[18] == 0, "apply_auxiliary_v1", "U");
+    check(v[0] == 0 && v[1] == 23 && v[16] == 21 && v[17] == 22 && v[18] == 0, "apply_auxiliary_v1", "V");
+
+    /* V2: in a view of 9 by 2, which counts as 16 wide, V stands 8 columns after U in luma and 4 in chroma. */
+    const uint8_t columns[18] = {31, 0, 0, 0, 0, 0, 0, 0, 41, 32, 0, 0, 0, 0, 0, 0, 0, 42};
+    const uint8_t fourths_u[5] = {33, 0, 0, 0, 43}, fourths_v[5] = {0};
+    check(haythaw_apply_auxiliary_v2(2, 2, y, 256, u, 256, v, 256, rects, 4, 9, 2, 9, 5, columns, 18, fourths_u, 4, fourths_v, 5) ==
+              HAYTHAW_VIEW_SHORT,
+          "apply_auxiliary_v2", "a refusal");
+    check(haythaw_apply_auxiliary_v2(2, 2, y, 256, u, 256, v, 256, rects, 4, 9, 2, 9, 5, columns, 18, fourths_u, 5, fourths_v, 5) ==
+              HAYTHAW_DONE,
+          "apply_auxiliary_v2", "a number");
+    check(u[0] == 0 && u[1] == 31 && u[16] == 33 && u[17] == 32 && u[18] == 0, "apply_auxiliary_v2", "U");
+    check(v[0] == 0 && v[1] == 41 && v[16] == 43 && v[17] == 42 && v[18] == 0, "apply_auxiliary_v2", "V");
+    check(y[0] == 0 && y[16] == 0, "apply_auxiliary_v1 and _v2", "no Y");
+}
+
+/* A picture of 2 by 1 is split into views of 16 by 16, and one of 65,521 by 0 into none. */
+static void result_of_split(void)
+{
+    static uint8_t y[256], u[256], v[256], main_y[256], main_u[64], main_v[64], aux_y[256], aux_u[64], aux_v[64];
+    y[255] = 1;
+    u[0] = 2, u[1] = 3, u[16] = 4;
+    v[0] = 5, v[1] = 6, v[16] = 7;
+
+    haythaw_views views = haythaw_split_v1(2, 1, y, 256, u, 256, v, 256, main_y, 256, main_u, 64, main_v, 64,
+                                           aux_y, 256, aux_u, 64, aux_v, 63);
+    check(views.number == HAYTHAW_OUTPUT_SHORT && views.width == 0 && views.height == 0, "split_v1", "a refusal");
+    check(views.luma_stride == 0 && views.chroma_stride == 0 && main_y[255] == 0, "split_v1", "no strides");
+
+    views = haythaw_split_v1(2, 1, y, 256, u, 256, v, 256, main_y, 256, main_u, 64, main_v, 64, aux_y, 256, aux_u, 64, aux_v, 64);
+    check(views.number == HAYTHAW_DONE, "split_v1", "a number");
+    check(views.width == 16 && views.height == 16 && views.luma_stride == 16 && views.chroma_stride == 8, "split_v1", "sizes");
+    check(main_y[255] == 1 && main_u[0] == 2 && main_v[0] == 5, "split_v1", "the main view");
+    check(aux_y[0] == 4 && aux_y[128] == 7 && aux_u[0] == 3 && aux_v[0] == 6, "split_v1", "the auxiliary view");
+
+    views = haythaw_split_v2(2, 1, y, 256, u, 256, v, 256, main_y, 256, main_u, 64, main_v, 64, aux_y, 256, aux_u, 64, aux_v, 64);
+    check(views.number == HAYTHAW_DONE, "split_v2", "a number");
+    check(views.width == 16 && views.height == 16 && views.luma_stride == 16 && views.chroma_stride == 8, "split_v2", "sizes");
+    check(aux_y[0] == 3 && aux_y[8] == 6 && aux_u[0] == 4 && aux_u[4] == 7 && aux_v[0] == 0, "split_v2", "the auxiliary view");
+
+    /* width 0 leaves a height, so that the two are not exchanged */
+    views = haythaw_split_v2(0, 16, y, 0, u, 0, v, 0, main_y, 0, main_u, 0, main_v, 0, aux_y, 0, aux_u, 0, aux_v, 0);
+    check(views.number == HAYTHAW_DONE && views.width == 0 && views.height == 16, "split_v2", "empty views");
+    views = haythaw_split_v2(65521, 0, y, 0, u, 0, v, 0, main_y, 0, main_u, 0, main_v, 0, aux_y, 0, aux_u, 0, aux_v, 0);
+    check(views.number == HAYTHAW_SPLIT_LARGE && views.width == 0 && views.luma_stride == 0, "split_v2", "too wide");
+}
+
+static void each_result_type(void)
+{
+    result_of_view();
+    result_of_payload();
+    result_of_avc444();
+    result_of_write();
+    result_of_picture();
+    result_of_main_view();
+    result_of_auxiliary_views();
+    result_of_split();
+}
+
+#endif

@@ -1,0 +1,78 @@
+//! Views into a picture.
+
+use super::{Size, View};
+
+/// Declares functions of the library that apply a view to a picture, and each in safe Rust.
+macro_rules! applying {
+    ($($(#[$about:meta])* $name:ident is $symbol:ident;)*) => {
+        // The names and the types are those of crates/haythaw.
+        unsafe extern "C" {
+            $(fn $symbol(
+                width: u16,
+                height: u16,
+                y: *mut u8,
+                y_count: usize,
+                u: *mut u8,
+                u_count: usize,
+                v: *mut u8,
+                v_count: usize,
+                rects: *const u16,
+                rects_count: usize,
+                view_width: u16,
+                view_height: u16,
+                luma_stride: usize,
+                chroma_stride: usize,
+                view_y: *const u8,
+                view_y_count: usize,
+                view_u: *const u8,
+                view_u_count: usize,
+                view_v: *const u8,
+                view_v_count: usize,
+            ) -> u32;)*
+        }
+
+        $($(#[$about])*
+        #[inline]
+        pub fn $name(
+            Size { width, height }: Size,
+            [y, u, v]: [&mut [u8]; 3],
+            rects: &[u16],
+            view: View<'_>,
+        ) -> u32 {
+            // SAFETY: each pointer and count are of one slice, and the three that are written are borrowed for that alone.
+            unsafe {
+                $symbol(
+                    width,
+                    height,
+                    y.as_mut_ptr(),
+                    y.len(),
+                    u.as_mut_ptr(),
+                    u.len(),
+                    v.as_mut_ptr(),
+                    v.len(),
+                    rects.as_ptr(),
+                    rects.len(),
+                    view.width,
+                    view.height,
+                    view.luma_stride,
+                    view.chroma_stride,
+                    view.y.as_ptr(),
+                    view.y.len(),
+                    view.u.as_ptr(),
+                    view.u.len(),
+                    view.v.as_ptr(),
+                    view.v.len(),
+                )
+            }
+        })*
+    };
+}
+
+applying! {
+    /// The main view, within the rectangles of a list. 0, 1, 7, 3 or 4.
+    apply_main_view is haythaw_apply_main_view;
+    /// The auxiliary view of layout V1. 0, 1, 7, 3 or 4.
+    apply_auxiliary_v1 is haythaw_apply_auxiliary_v1;
+    /// The auxiliary view of layout V2. 0, 1, 7, 3 or 4.
+    apply_auxiliary_v2 is haythaw_apply_auxiliary_v2;
+}

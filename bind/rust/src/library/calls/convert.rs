@@ -1,0 +1,85 @@
+//! Both conversions to RGBA.
+
+use super::{Answer, Size, View};
+
+// The names and the types are those of crates/haythaw.
+unsafe extern "C" {
+    fn haythaw_to_rgba(
+        width: u16,
+        height: u16,
+        y: *const u8,
+        y_count: usize,
+        u: *const u8,
+        u_count: usize,
+        v: *const u8,
+        v_count: usize,
+        left: u16,
+        top: u16,
+        right: u16,
+        bottom: u16,
+        out: *mut u8,
+        out_count: usize,
+    ) -> Answer;
+    fn haythaw_view_to_rgba(
+        view_width: u16,
+        view_height: u16,
+        luma_stride: usize,
+        chroma_stride: usize,
+        view_y: *const u8,
+        view_y_count: usize,
+        view_u: *const u8,
+        view_u_count: usize,
+        view_v: *const u8,
+        view_v_count: usize,
+        out: *mut u8,
+        out_count: usize,
+    ) -> Answer;
+}
+
+/// The rectangle (left, top, right, bottom) of a picture. 0, 1 or 6.
+#[inline]
+pub fn to_rgba(Size { width, height }: Size, [y, u, v]: [&[u8]; 3], rect: [u16; 4], out: &mut [u8]) -> Answer {
+    let [left, top, right, bottom] = rect;
+    // SAFETY: each pointer and count are of one slice, and the one that is written is borrowed for that alone.
+    unsafe {
+        haythaw_to_rgba(
+            width,
+            height,
+            y.as_ptr(),
+            y.len(),
+            u.as_ptr(),
+            u.len(),
+            v.as_ptr(),
+            v.len(),
+            left,
+            top,
+            right,
+            bottom,
+            out.as_mut_ptr(),
+            out.len(),
+        )
+    }
+}
+
+/// A whole view. 0, 3, 4 or 6.
+#[inline]
+pub fn view_to_rgba(view: View<'_>, out: &mut [u8]) -> Answer {
+    let View { width, height, luma_stride, chroma_stride, y, u, v } = view;
+    // SAFETY: each pointer and count are of one slice, and the one that is written is borrowed for that alone.
+    unsafe {
+        haythaw_view_to_rgba(
+            width,
+            height,
+            luma_stride,
+            chroma_stride,
+            y.as_ptr(),
+            y.len(),
+            u.as_ptr(),
+            u.len(),
+            v.as_ptr(),
+            v.len(),
+            out.as_mut_ptr(),
+            out.len(),
+        )
+    }
+}

@@ -1,0 +1,33 @@
+//! The functions of the proved library that have a place in `bind/c/haythaw.h`, each in safe Rust, in the files that `crates/haythaw`
+//! has. These files name nothing of the crate around them: the runs beside the Rust original (`oracle/runs`) compile them too, so that
+//! what is compared there is declared as it is here.
+//!
+//! A slice passes as a pointer and an element count. The library asks two things of its caller that it cannot check: every count is
+//! true, and a slice that is written overlaps no other. Here both hold by the types. A pointer and its count are always those of one
+//! slice, which is borrowed until the call is over; and what is written is a `&mut` slice, which no other borrow overlaps. Of an empty
+//! slice no byte is touched. Nothing else is asked: every call is proved for all numbers, lengths and contents, touches the slices
+//! alone, keeps no pointer, and ends.
+
+mod avc444;
+mod combine;
+mod convert;
+mod payload;
+mod picture;
+mod split;
+mod view;
+
+pub use avc444::*;
+pub use combine::*;
+pub use convert::*;
+pub use payload::*;
+pub use picture::*;
+pub use split::*;
+pub use view::*;
+
+/// What a call that writes answers: 0 or the number of a refusal, and how many elements of the slice were written.
+#[repr(C)]
+#[derive(Debug, Clone, Copy, PartialEq, Eq)]
+pub struct Answer {
+    pub number: u32,
+    pub count: usize,
+}

@@ -1,0 +1,69 @@
+//! A 4:4:4 picture in the planes Y, U and V.
+
+/// A picture's width and height.
+#[derive(Debug, Clone, Copy, PartialEq, Eq)]
+pub struct Size {
+    pub width: u16,
+    pub height: u16,
+}
+
+// The names and the types are those of crates/haythaw.
+unsafe extern "C" {
+    // SAFETY: it takes numbers by value, and is proved to answer for all of them.
+    safe fn haythaw_allocation_size(width: u16, height: u16) -> usize;
+    fn haythaw_new(
+        width: u16,
+        height: u16,
+        y: *mut u8,
+        y_count: usize,
+        u: *mut u8,
+        u_count: usize,
+        v: *mut u8,
+        v_count: usize,
+    ) -> u32;
+    fn haythaw_from_rgba(
+        rgba: *const u8,
+        rgba_count: usize,
+        width: u16,
+        height: u16,
+        y: *mut u8,
+        y_count: usize,
+        u: *mut u8,
+        u_count: usize,
+        v: *mut u8,
+        v_count: usize,
+    ) -> u32;
+}
+
+/// Bytes of the three planes together.
+#[inline]
+pub fn allocation_size(Size { width, height }: Size) -> usize {
+    haythaw_allocation_size(width, height)
+}
+
+/// A fresh picture. 0 or 1.
+#[inline]
+pub fn new(Size { width, height }: Size, [y, u, v]: [&mut [u8]; 3]) -> u32 {
+    // SAFETY: each pointer and count are of one slice, and all three are borrowed to be written.
+    unsafe { haythaw_new(width, height, y.as_mut_ptr(), y.len(), u.as_mut_ptr(), u.len(), v.as_mut_ptr(), v.len()) }
+}
+
+/// The picture of RGBA pixels. 0, 2 or 1.
+#[inline]
+pub fn from_rgba(rgba: &[u8], Size { width, height }: Size, [y, u, v]: [&mut [u8]; 3]) -> u32 {
+    // SAFETY: each pointer and count are of one slice, and the three that are written are borrowed for that alone.
+    unsafe {
+        haythaw_from_rgba(
+            rgba.as_ptr(),
+            rgba.len(),
+            width,
+            height,
+            y.as_mut_ptr(),
+            y.len(),
+            u.as_mut_ptr(),
+            u.len(),
+            v.as_mut_ptr(),
+            v.len(),
+        )
+    }
+}

@@ -1,0 +1,640 @@
+#!/usr/bin/env python3
+"""Draws the pictures of docs/drawings/ that docs/RULES.md shows. Where a sample comes from, which samples a rectangle takes, what bytes a
+payload has and what the filter answers is worked out here by the rules' own formulas, under the names of the proved definitions
+(crates/*/specs); nothing of it is placed by hand.
+
+  docs/drawings.py            draws them
+  docs/drawings.py --check    says whether docs/drawings/ has what would be drawn; status 1 if it has not
+"""
+import os
+import sys
+from collections import namedtuple
+from xml.sax.saxutils import escape
+
+ROOT = os.path.dirname(os.path.dirname(os.path.abspath(__file__)))
+FOLDER = os.path.join(ROOT, 'docs', 'drawings')
+WIDE = 912
+
+# Colours that are told apart with any colour vision (Okabe and Ito); letters and hatches say the same again.
+YELLOW, SKY, ORANGE, PURPLE, GREEN, RED = '#f3e96b', '#7cc4ee', '#eeb43f', '#d795bb', '#5fc0a3', '#d55e00'
+BLUE, PALE, GREY, INK = '#0072b2', '#efefef', '#8a8a8a', '#111111'
+
+
+# --- The rules: layout/specs/Maps.antt, Exists.antt. A place (k, r, c) is a chroma sample of the picture, k is U or V; a spot (part, r, c)
+# is a sample of a view's plane Y, U or V.
+
+def shift(k, n):
+    """U and V share something in two halves of n: where k's half starts."""
+    return 0 if k == 'U' else n
+
+
+def half_of(n, j):
+    return 'U' if j < n else 'V'
+
+
+def into(n, j):
+    return j - shift(half_of(n, j), n)
+
+
+def upper_of(r):
+    return r - r % 16 + r % 16 // 2
+
+
+def to_v1(k, r, c):
+    return ('Y', upper_of(r) + shift(k, 8), c) if r % 2 == 1 else (k, r // 2, c // 2)
+
+
+def from_v1(part, r, c):
+    if part == 'Y':
+        return half_of(8, r % 16), r - r % 16 + (2 * into(8, r % 16) + 1), c
+    return part, 2 * r, 2 * c + 1
+
+
+def to_v2(k, r, c, w=16):
+    if c % 2 == 1:
+        return 'Y', r, shift(k, w // 2) + c // 2
+    return 'U' if c % 4 == 0 else 'V', r // 2, shift(k, w // 4) + c // 4
+
+
+def from_v2(part, r, c, w=16):
+    if part == 'Y':
+        return half_of(w // 2, c), r, 2 * into(w // 2, c) + 1
+    return half_of(w // 4, c), 2 * r + 1, 4 * into(w // 4, c) + (0 if part == 'U' else 2)
+
+
+def left_out(r, c):
+    """The main view, which has the even rows' even columns, leaves this sample to the auxiliary view."""
+    return r % 2 == 1 or c % 2 == 1
+
+
+def to_main(k, r, c):
+    return k, r // 2, c // 2
+
+
+def from_main(part, r, c):
+    return part, 2 * r, 2 * c
+
+
+def each_fed_once(to, back):
+    """Every chroma place of a 16 x 16 picture lives at one spot, and every spot of the views' planes but the main Y holds one place."""
+    homes = {}
+    for k, r, c in ((k, r, c) for k in 'UV' for r in range(16) for c in range(16)):
+        view, spot, place = ('auxiliary', to(k, r, c), back) if left_out(r, c) else ('main', to_main(k, r, c), from_main)
+        assert place(*spot) == (k, r, c) and (view, spot) not in homes
+        homes[view, spot] = (k, r, c)
+    assert len(homes) == 16 * 16 + 4 * 8 * 8
+
+
+# --- The rules: rects/specs/Rects.antt, apply_main/specs/Main.antt. A rectangle is left, top, right, bottom; right and bottom are exclusive.
+
+Rect = namedtuple('Rect', 'left top right bottom')
+Size = namedtuple('Size', 'width height')
+
+
+def round_up(n, m):
+    return (m + n - 1) // n * n
+
+
+def chroma_block_area_of(size, rect):
+    return Rect(rect.left // 2 * 2, rect.top // 2 * 2, round_up(2, min(rect.right, size.width)), round_up(2, min(rect.bottom, size.height)))
+
+
+def wrong_area_of(size, rect):
+    """The error that tempts: an odd left edge is rounded up."""
+    return chroma_block_area_of(size, rect)._replace(left=round_up(2, rect.left))
+
+
+def main_luma(size, view, rect, area):
+    """The rows and columns of luma that a rectangle takes from a main view."""
+    bottom, right = min(rect.bottom, size.height, view.height), min(rect.right, area.right, view.width)
+    return {(r, c) for r in range(rect.top, bottom) for c in range(rect.left, right)}
+
+
+def main_chroma(view, area):
+    return {(r, c) for r in range(area.top, min(area.bottom, view.height)) for c in range(area.left, min(area.right, view.width))}
+
+
+# --- The rules: wire_fields/specs/Fields.antt, wire_read/specs/Format.antt, wire_write/specs/Writing.antt.
+
+Parts = namedtuple('Parts', 'count rects pairs h264')
+
+
+def u16_bytes(n):
+    return [n % 256, n // 256 % 256]
+
+
+def u32_bytes(n):
+    return u16_bytes(n) + u16_bytes(n // 65536)
+
+
+def u16_at(s, at):
+    return s[at] + s[at + 1] * 256
+
+
+def u32_at(s, at):
+    return u16_at(s, at) + u16_at(s, at + 2) * 65536
+
+
+def info_of(kind, size):
+    return kind % 4 * 2 ** 30 + size % 2 ** 30
+
+
+def parts_from(rects, pairs, h264):
+    return Parts(u32_bytes(len(rects) // 4), [byte for n in rects for byte in u16_bytes(n)], pairs, h264)
+
+
+def places_at(start, parts):
+    """Where the parts of a stream stand that starts here, and where it ends."""
+    places = [start]
+    for part in parts:
+        places.append(places[-1] + len(part))
+    return places
+
+
+# --- The rules: colour/specs/Colour.antt, with a the even-even sample of a 2x2 block and s the sum of the other three.
+
+def reversed_of(a, s):
+    return max(0, min(255, 4 * a - s))
+
+
+def filtered_of(a, s):
+    return a if abs(reversed_of(a, s) - a) < 30 else reversed_of(a, s)
+
+
+# --- The pen: each call answers a piece of SVG.
+
+def said_of(more):
+    """Further attributes, as SVG writes them."""
+    return ''.join(f' {name.replace("_", "-")}="{value}"' for name, value in more.items())
+
+
+def text(x, y, words, size=13, anchor='start', **more):
+    anchored = '' if anchor == 'start' else f' text-anchor="{anchor}"'
+    return f'<text x="{x:g}" y="{y:g}" font-size="{size:g}"{anchored}{said_of(more)}>{escape(str(words))}</text>'
+
+
+def lines(x, y, all_words, size=13, step=18, **more):
+    return ''.join(text(x, y + step * i, words, size, **more) for i, words in enumerate(all_words))
+
+
+def box(x, y, wide, high, fill='none', stroke='none', thick=1, **more):
+    return (f'<rect x="{x:g}" y="{y:g}" width="{wide:g}" height="{high:g}" fill="{fill}"'
+            + (f' stroke="{stroke}" stroke-width="{thick:g}"' if stroke != 'none' else '') + said_of(more) + '/>')
+
+
+def path(way, stroke=INK, thick=1, fill='none', **more):
+    return f'<path d="{way}" fill="{fill}" stroke="{stroke}" stroke-width="{thick:g}"{said_of(more)}/>'
+
+
+def hatch(name, colour, gap=6, thick=1.2, turned=45):
+    return (f'<pattern id="{name}" width="{gap}" height="{gap}" patternUnits="userSpaceOnUse" patternTransform="rotate({turned})">'
+            f'<line x1="0" y1="0" x2="0" y2="{gap}" stroke="{colour}" stroke-width="{thick:g}"/></pattern>')
+
+
+def used(name, x, y):
+    return f'<use href="#{name}" x="{x:g}" y="{y:g}"/>'
+
+
+def picture(high, title, description, pieces):
+    head = [f'<svg xmlns="http://www.w3.org/2000/svg" viewBox="0 0 {WIDE} {high}" role="img" font-family="sans-serif" fill="{INK}">',
+            f'<title>{escape(title)}</title>', f'<desc>{escape(description)}</desc>',
+            '<rect width="100%" height="100%" fill="white"/>', text(12, 28, title, 19, font_weight='bold')]
+    return '\n'.join(head + pieces + ['</svg>']) + '\n'
+
+
+# --- v1.svg, v2.svg: where a layout keeps each chroma sample of a macroblock.
+
+CELL, LEFT, RIGHT, HALF = 26, 28, 482, 8 * 26 + 8        # a cell, the left edges of the two halves, from a U plane to its V plane
+FOLLOWED = [(1, 0), (3, 5), (5, 6), (15, 15), (0, 1), (14, 15), (6, 8)]
+
+# back: whose sample a spot holds; ways: of each way that a sample takes, its mark in the picture's grid, its colour, its words
+Layout = namedtuple('Layout', 'name to back ways rule')
+MAIN_WAY = ('m', YELLOW, 'main view, planes U and V: the block’s average')
+V1 = Layout('V1', to_v1, from_v1, [
+    MAIN_WAY, ('aY', SKY, 'auxiliary view, plane Y: odd rows, U above, V below'),
+    ('aUV', ORANGE, 'auxiliary view, planes U and V: odd columns of even rows')], [
+    'Odd row r: n = r − r%16 + (r%16)/2; U is in row n of the auxiliary',
+    'Y, V in row n + 8, at the same column. Even row r, odd column c:',
+    'in the auxiliary U and V, at r/2, c/2. Halves are floor.'])
+V2 = Layout('V2', to_v2, from_v2, [
+    MAIN_WAY, ('aY', SKY, 'auxiliary view, plane Y: odd columns, U left, V right'),
+    ('aU', ORANGE, 'auxiliary view, plane U: odd rows, column%4 = 0'), ('aV', PURPLE, 'auxiliary view, plane V: odd rows, column%4 = 2')], [
+    'W = 16. Odd column c: U is in the auxiliary Y at column c/2, V at',
+    'W/2 + c/2, same row. Odd row r, even c: in the auxiliary U (c%4 = 0)',
+    'or V (else), row r/2: U at c/4, V at W/4 + c/4. All floor.'])
+
+
+def way_of(layout, r, c):
+    """The mark of the way that U and V of this place take."""
+    if not left_out(r, c):
+        return 'm'
+    return 'a' + ''.join(sorted({layout.to(k, r, c)[0] for k in 'UV'}))
+
+
+def cell_forms(layout):
+    """A form for each cell of the picture's grid, named by its way, and for each cell of a plane, with U or V behind it; V is hatched."""
+    def form(name, colour, mark, over=''):
+        return (f'<g id="{name}">' + box(0, 0, CELL, CELL, colour, '#ffffff') + over
+                + text(CELL / 2, 17, mark, 10, 'middle', fill='#444444') + '</g>')
+
+    out = [hatch('lined', '#00000055')]
+    for mark, colour, _ in layout.ways:
+        out += [form(mark, colour, mark), form(mark + '-U', colour, 'U'),
+                form(mark + '-V', colour, 'V', box(0, 0, CELL, CELL, 'url(#lined)'))]
+    return '<defs>' + '\n'.join(out) + '</defs>'
+
+
+def followed_cell(x, y, r, c):
+    words = [f'{r},{c}'] if r < 10 and c < 10 else [f'{r},', f'{c}']
+    return (box(x + 1, y + 1, CELL - 2, CELL - 2, '#ffffff', INK, 2, rx=3)
+            + lines(x + CELL / 2, y + 22 - 5.5 * len(words), words, 10.5, 10.5, anchor='middle', font_weight='bold'))
+
+
+def grid(x, y, count, cell_at, row_heads, column_heads):
+    """A square grid: `cell_at` answers the form and the picture's place of a cell; the heads are numbers of the picture."""
+    out = []
+    for i, j in ((i, j) for i in range(count) for j in range(count)):
+        form, place = cell_at(i, j)
+        out.append(used(form, x + j * CELL, y + i * CELL))
+        if place in FOLLOWED:
+            out.append(followed_cell(x + j * CELL, y + i * CELL, *place))
+    out.append(box(x, y, count * CELL, count * CELL, 'none', INK, 1.2))
+    out += [text(x - 5, y + i * CELL + 17, head, 10, 'end', fill='#444444') for i, head in enumerate(row_heads)]
+    out += [text(x + j * CELL + CELL / 2, y - 4, head, 10, 'middle', fill='#444444') for j, head in enumerate(column_heads)]
+    return '\n'.join(out)
+
+
+def plane(x, y, count, layout, part, back, rows=True):
+    """A plane of a view; beside it the picture's rows, above it the picture's columns that its samples have."""
+    def cell_at(i, j):
+        k, r, c = back(part, i, j)
+        return f'{way_of(layout, r, c)}-{k}', (r, c)
+
+    def only(numbers):
+        assert len(set(numbers)) == 1
+        return numbers[0]
+
+    places = [[back(part, i, j)[1:] for j in range(count)] for i in range(count)]
+    row_heads = [only([r for r, _ in row]) for row in places]
+    column_heads = [only([places[i][j][1] for i in range(count)]) for j in range(count)]
+    return grid(x, y, count, cell_at, row_heads if rows else [], column_heads)
+
+
+def way_words(layout, r, c):
+    """Where U and V of a place are, in words."""
+    if not left_out(r, c):
+        _, i, j = to_main('U', r, c)
+        return f'({r},{c}): U and V in the main U and V, at ({i},{j})'
+    (p, i, j), (q, m, n) = layout.to('U', r, c), layout.to('V', r, c)
+    return f'({r},{c}): U in auxiliary {p} at ({i},{j}), V in auxiliary {q} at ({m},{n})'
+
+
+def layout_legend(y, layout):
+    out = []
+    for i, (mark, _, words) in enumerate(layout.ways):
+        out += [used(mark, LEFT, y + 30 * i), text(LEFT + 36, y + 30 * i + 18, words)]
+    row = y + 30 * len(layout.ways)
+    out += [box(LEFT, row, CELL, CELL, 'none', GREY), box(LEFT, row, CELL, CELL, 'url(#lined)'), text(LEFT + 36, row + 18, 'hatched: a sample of V'),
+            text(LEFT + 250, row + 18, 'framed: followed at the right')]
+    out.append(text(RIGHT, y + 12, 'Single samples, (row, column):', font_weight='bold'))
+    out += [text(RIGHT, y + 33 + 18 * i, way_words(layout, r, c), 12) for i, (r, c) in enumerate(FOLLOWED)]
+    return out
+
+
+def draw_layout(layout):
+    each_fed_once(layout.to, layout.back)
+    top, middle = 84, 84 + 16 * CELL + 24
+    low = middle + 102
+    small = [box(LEFT + 60 * (n % 16) / 16, middle + 60 * (n // 16) / 16, 60 / 16, 60 / 16, PALE, GREY, 0.4) for n in range(256)]
+    out = [cell_forms(layout), text(LEFT, 60, 'The picture’s chroma: where U and V of each place go', 14, font_weight='bold'),
+           text(RIGHT, 60, 'Auxiliary view: Y, 16 x 16', 14, font_weight='bold'),
+           grid(LEFT, top, 16, lambda r, c: (way_of(layout, r, c), (r, c)), range(16), range(16)),
+           plane(RIGHT, top, 16, layout, 'Y', layout.back), ''.join(small),
+           lines(LEFT + 72, middle + 14, ['Main view: Y, 16 x 16 (drawn small): the luma, as it is.',
+                                          'Beside and above a plane of a view stand the rows and',
+                                          'columns that its samples have in the picture.'], 12),
+           lines(RIGHT, middle + 14, layout.rule, 12)]
+    for view, x, back in (('Main', LEFT, from_main), ('Auxiliary', RIGHT, layout.back)):
+        for part, at in (('U', x), ('V', x + HALF)):
+            out += [text(at, low - 18, f'{view} view: {part}, 8 x 8', 14, font_weight='bold'), plane(at, low, 8, layout, part, back, part == 'U')]
+    out += layout_legend(low + 8 * CELL + 18, layout)
+    description = (f'At the left the 16 x 16 chroma places of a macroblock, marked by the plane that carries their U and V in layout {layout.name}; '
+                   'at the right and below the planes of the two views. ' + '; '.join(way_words(layout, r, c) for r, c in FOLLOWED) + '.')
+    return picture(low + 8 * CELL + 190, f'Layout {layout.name}: where a macroblock’s chroma travels', description, out)
+
+
+# --- widening.svg: which samples a rectangle takes.
+
+PADDED = Size(16, 16)
+
+
+def span(numbers):
+    """The numbers of a set without gaps, in words."""
+    first, last = min(numbers), max(numbers)
+    assert sorted(numbers) == list(range(first, last + 1))
+    return f'{first}' if first == last else f'{first} and {last}' if last == first + 1 else f'{first} to {last}'
+
+
+def taken_words(name, taken):
+    if not taken:
+        return f'{name}: none.'
+    return f'{name}: columns {span({c for _, c in taken})}, rows {span({r for r, _ in taken})}.'
+
+
+def widening_forms():
+    def form(name, *pieces):
+        return f'<g id="{name}">' + ''.join(pieces) + '</g>'
+
+    def mark(x, y, word, **more):
+        return text(x, y, word, 10, 'middle', **more)
+
+    return '<defs>' + '\n'.join([
+        hatch('padding', '#bbbbbb', 5, 1), hatch('stale', RED, 5, 2, -45),
+        form('pixel', box(0, 0, CELL, CELL, '#ffffff', '#cccccc', 0.7)),
+        form('outside', box(0, 0, CELL, CELL, 'url(#padding)', '#cccccc', 0.7)),
+        form('chroma', box(0, 0, CELL, CELL, ORANGE, '#ffffff', 0.7), mark(7, 12, 'c')),
+        form('old', box(0, 0, CELL, CELL, '#ffffff', '#cccccc', 0.7), box(0, 0, CELL, CELL, 'url(#stale)')),
+        form('luma', f'<circle cx="16" cy="16" r="6.8" fill="{SKY}" stroke="{INK}" stroke-width="0.8"/>', mark(16, 19.6, 'Y'))]) + '</defs>'
+
+
+def blocks(x, y, columns, rows):
+    """The edges of the 2x2 blocks."""
+    way = ''.join(f'M{x + j * CELL} {y}v{rows * CELL}' for j in range(0, columns + 1, 2))
+    return path(way + ''.join(f'M{x} {y + i * CELL}h{columns * CELL}' for i in range(0, rows + 1, 2)), GREY, 1.3)
+
+
+def panel(x, y, shown, size, rect, area):
+    """The first columns and rows of a padded picture, and what a rectangle takes there by a widened area."""
+    luma, chroma = main_luma(size, PADDED, rect, area), main_chroma(PADDED, area)
+    lost = main_chroma(PADDED, chroma_block_area_of(size, rect)) - chroma
+    out = []
+    for r, c in ((r, c) for r in range(shown.height) for c in range(shown.width)):
+        under = 'chroma' if (r, c) in chroma else 'old' if (r, c) in lost else 'pixel' if r < size.height and c < size.width else 'outside'
+        out += [used(name, x + c * CELL, y + r * CELL) for name in [under] + ['luma'] * ((r, c) in luma)]
+    out.append(blocks(x, y, shown.width, shown.height))
+    out.append(path(f'M{x + size.width * CELL} {y}v{size.height * CELL}H{x}', INK, 1.6, stroke_dasharray='5 3'))
+    wide, high = (rect.right - rect.left) * CELL, (rect.bottom - rect.top) * CELL
+    out.append(path(f'M{x + rect.left * CELL} {y + rect.top * CELL}h{wide}v{high}h{-wide}z', INK, 3.5))
+    out += [text(x - 5, y + r * CELL + 17, r, 10, 'end', fill='#444444') for r in range(shown.height)]
+    out += [text(x + c * CELL + CELL / 2, y - 4, c, 10, 'middle', fill='#444444') for c in range(shown.width)]
+    return out
+
+
+def area_words(size, rect, area):
+    """What the four edges become, by a widening."""
+    return [f'({", ".join(map(str, rect))}) in {size.width} x {size.height}:',
+            f'left {rect.left} → {area.left}, top {rect.top} → {area.top},',
+            f'right {rect.right} → {area.right}, bottom {rect.bottom} → {area.bottom}.']
+
+
+def widening_legend(y):
+    items = [(['chroma'], 'chroma taken, a whole block or none'), (['pixel', 'luma'], 'luma taken, the rectangle’s own pixels'),
+             (['old'], 'wrong: a block that keeps its old chroma'), (['outside'], 'padding (the planes go on to 16 x 16)')]
+    out = []
+    for i, (names, words) in enumerate(items):
+        x, row = LEFT + 450 * (i % 2), y + 34 * (i // 2)
+        out += [used(name, x, row) for name in names] + [text(x + 36, row + 18, words)]
+    out += [path(f'M{LEFT} {y + 82}h{CELL}', INK, 3.5), text(LEFT + 36, y + 86, 'the rectangle'),
+            path(f'M{LEFT + 450} {y + 82}h{CELL}', INK, 1.6, stroke_dasharray='5 3'), text(LEFT + 486, y + 86, 'the picture’s edge')]
+    return out
+
+
+def panel_words(size, rect, area):
+    """What the edges become, what is taken, and what is lost."""
+    right_area = chroma_block_area_of(size, rect)
+    chroma, luma = main_chroma(PADDED, area), main_luma(size, PADDED, rect, area)
+    words = area_words(size, rect, area) + [taken_words('Chroma', chroma), taken_words('Luma', luma)]
+    if area != right_area:
+        lost = main_chroma(PADDED, right_area) - chroma
+        words += [f'Columns {span({c for _, c in lost})} keep their old chroma:', f'a tick in column {rect.left} stays grey.']
+    elif not luma:
+        even = rect._replace(left=area.left, right=area.left)
+        assert not main_chroma(PADDED, chroma_block_area_of(size, even))
+        words += ['But with even edges,', f'({", ".join(map(str, even))}), it takes nothing.']
+    return words
+
+
+def draw_widening():
+    odd, empty = (Size(9, 7), Rect(3, 1, 6, 5)), (Size(5, 5), Rect(5, 0, 5, 4))
+    panels = [('The rule', Size(10, 8), *odd, chroma_block_area_of), ('Wrong: left rounded up', Size(10, 8), *odd, wrong_area_of),
+              ('An empty rectangle', Size(8, 8), *empty, chroma_block_area_of)]
+    out, said, x, low = [widening_forms()], [], LEFT, 84 + 8 * CELL
+    for name, shown, size, rect, area_of in panels:
+        area = area_of(size, rect)
+        words = panel_words(size, rect, area)
+        out += [text(x, 58, name, 14, font_weight='bold'), *panel(x, 84, shown, size, rect, area), lines(x, low + 24, words, 12)]
+        said.append(f'{name}: ' + ' '.join(words))
+        x += shown.width * CELL + 52
+    out += widening_legend(low + 162)
+    return picture(low + 268, 'Widening: chroma is taken in whole 2x2 blocks', ' '.join(said), out)
+
+
+# --- payload.svg: the bytes of an AVC444 payload of kind 0, and what the other kinds carry.
+
+BYTE = 27
+LUMA_STREAM = parts_from([3, 1, 6, 5, 0, 0, 400, 2], [150, 100, 22, 90], [0, 0, 1, 103])
+CHROMA_STREAM = parts_from([3, 1, 6, 5], [22, 100], [0, 0, 1, 103, 66, 0])
+PART_COLOURS = {'count': SKY, 'rects': ORANGE, 'pairs': PURPLE, 'h264': GREEN}
+
+
+def brace(x, y, wide, words, size=12):
+    """A bracket below some cells, and its words."""
+    return path(f'M{x + 2:g} {y:g}v5h{wide - 4:g}v-5', '#444444') + text(x + wide / 2, y + 19, words, size, 'middle')
+
+
+def ruler(x, y, s, start, end, colour):
+    """Bytes of the payload in hexadecimal, the first one's place above it."""
+    out = [text(x, y - 5, start, 10, fill='#444444')]
+    for i, byte in enumerate(s[start:end]):
+        out += [box(x + i * BYTE, y, BYTE, 30, colour, '#ffffff'),
+                text(x + i * BYTE + BYTE / 2, y + 20, f'{byte:02X}', 13, 'middle', font_family='monospace')]
+    return ''.join(out)
+
+
+def numbers_below(x, y, numbers, wide, high=16):
+    """The numbers that some bytes are, each below its own."""
+    return ''.join(box(x + i * wide + 1, y, wide - 2, high, '#ffffff', GREY, 0.8) + text(x + i * wide + wide / 2, y + 12, n, 11, 'middle')
+                   for i, n in enumerate(numbers))
+
+
+def stream_ruler(x, y, s, start, parts, name):
+    """A stream of the payload, part by part."""
+    places, out = places_at(start, parts), []
+    count = u32_at(s, start)
+    words = {'count': 'count', 'rects': f'{count} x (left, top, right, bottom)', 'pairs': f'{count} x (q, quality)', 'h264': 'H.264'}
+    if count == 1:
+        words = {**words, 'rects': 'left, top, right, bottom', 'pairs': 'q, quality'}
+    for field, a, e in zip(Parts._fields, places, places[1:]):
+        at = x + (a - start) * BYTE
+        out += [ruler(at, y, s, a, e, PART_COLOURS[field]), brace(at, y + 50, (e - a) * BYTE, words[field], 11)]
+        if field == 'rects':
+            out.append(numbers_below(at, y + 32, [u16_at(s, i) for i in range(a, e, 2)], 2 * BYTE))
+    out.append(numbers_below(x, y + 32, [count], 4 * BYTE))
+    out.append(numbers_below(x + (places[2] - start) * BYTE, y + 32, s[places[2]:places[3]], BYTE))
+    wide = (places[-1] - start) * BYTE
+    out.append(path(f'M{x + 2} {y - 20}v-5h{wide - 4}v5', INK, 1.5) + text(x + wide / 2, y - 31, name, 13, 'middle', font_weight='bold'))
+    return out
+
+
+def bits(x, y, number, count, split, wide):
+    """The bits of a number, the highest first; those below `split` in the size's colour."""
+    out = []
+    for i in range(count):
+        bit = count - 1 - i
+        out += [box(x + i * wide, y, wide, 22, PALE if bit < split else YELLOW, '#ffffff'),
+                text(x + i * wide + wide / 2, y + 16, number // 2 ** bit % 2, 11, 'middle', font_family='monospace')]
+        if bit in (0, split - 1, split, count - 1):
+            out.append(text(x + i * wide + wide / 2, y - 4, bit, 10, 'middle', fill='#444444'))
+    return ''.join(out)
+
+
+def bit_fields(y, s, quantiser):
+    """The first number and a quantiser byte, bit by bit."""
+    number = u32_at(s, 0)
+    return [text(24, y - 22, f'The first number, {number:08X}', 14, font_weight='bold'), bits(24, y, number, 32, 30, 17),
+            brace(24, y + 24, 34, 'kind'), brace(58, y + 24, 30 * 17, f'size of the first stream: {number % 2 ** 30} bytes'),
+            text(620, y - 22, f'A quantiser byte q, {quantiser:02X}', 14, font_weight='bold'), bits(620, y, quantiser, 8, 6, 27),
+            brace(620, y + 24, 54, 'flags'), brace(674, y + 24, 6 * 27, f'value: {quantiser % 64}'),
+            text(620, y + 62, 'bit 7: progressive; bit 6: reserved', 12)]
+
+
+def kind_bars(y, size):
+    """What follows the first number in each kind; a first stream of `size` bytes."""
+    rows = [(0, size, [('stream 1: luma, size bytes', 300, PALE), ('stream 2: chroma, to the payload’s end', 306, '#ffffff')], 'stream 1’s bytes'),
+            (1, size, [('the one stream: luma, to the payload’s end', 606, PALE)], 'its bytes (*)'),
+            (2, 0, [('the one stream: chroma, to the payload’s end', 606, '#ffffff')], '0 (*)')]
+    out = [text(794, y - 8, 'size field', 12, font_weight='bold')]
+    for kind, wanted, streams, words in rows:
+        x, row = 182, y + 34 * kind
+        first = ' '.join(f'{byte:02X}' for byte in u32_bytes(info_of(kind, wanted)))
+        out += [text(24, row + 18, f'kind {kind}', 13, font_weight='bold'), box(82, row, 100, 26, YELLOW, INK),
+                text(132, row + 18, first, 12, 'middle', font_family='monospace')]
+        for name, wide, colour in streams:
+            out += [box(x, row, wide, 26, colour, INK), text(x + wide / 2, row + 18, name, 12, 'middle')]
+            x += wide
+        out.append(text(x + 6, row + 18, words, 12))
+    return out + [lines(24, y + 126, [
+        '(*) What the standard wants and the writer writes; the reader takes any size within the payload there, and does not use it.',
+        'Refused, in this order: below 4 bytes (9), kind 3 (8), a size past the payload (9), a count, rectangle or pair past its stream (10).'], 12)]
+
+
+def draw_payload():
+    luma, chroma = ([byte for part in parts for byte in part] for parts in (LUMA_STREAM, CHROMA_STREAM))
+    s = u32_bytes(info_of(0, len(luma))) + luma + chroma
+    out = [text(24, 54, 'An example of kind 0, byte by byte in hexadecimal; places count from 0, all numbers are little-endian.', 13),
+           ruler(24, 130, s, 0, 4, YELLOW), numbers_below(24, 162, [u32_at(s, 0)], 4 * BYTE), brace(24, 180, 4 * BYTE, 'kind and size', 11)]
+    out += stream_ruler(24 + 4 * BYTE, 130, s, 4, LUMA_STREAM, f'stream 1 (luma): {len(luma)} bytes, the size in the first number')
+    out += stream_ruler(24, 280, s, 4 + len(luma), CHROMA_STREAM, f'stream 2 (chroma): {len(chroma)} bytes, to the payload’s end')
+    out += bit_fields(420, s, LUMA_STREAM.pairs[0]) + kind_bars(536, len(luma))
+    said = (f'A payload of kind 0 of {len(s)} bytes: ' + ' '.join(f'{byte:02X}' for byte in s) + '. '
+            'The first number has the kind in its top two bits and the first stream’s size in its low 30 bits; each stream has a count, '
+            'that many rectangles of four two-byte numbers, that many pairs of a quantiser and a quality byte, and H.264 bytes. '
+            'Kinds 1 and 2 have one stream, luma or chroma, to the payload’s end.')
+    return picture(696, 'The AVC444 payload', said, out)
+
+
+# --- filter.svg: the reverse filter's answer over s, for one a.
+
+WORKED = [(100, 270, 130), (100, 271, 100), (100, 329, 100), (100, 330, 70)]  # a, s and the answer, worked by hand
+OTHERS = [(20, 180, 20), (30, 120, 0), (225, 300, 255), (226, 300, 226)]
+GRAPH = namedtuple('Graph', 'x y across up most')(330, 440, 1.12, 1.4, 480)   # its corner, pixels for a step of s and of the answer, the last s
+
+
+def point(s, answer):
+    return f'{GRAPH.x + s * GRAPH.across:.5g} {GRAPH.y - answer * GRAPH.up:.5g}'
+
+
+def runs(value, last):
+    """The points of a whole-number function, cut where it jumps; of a straight run its two ends alone."""
+    out = [[0]]
+    for s in range(1, last + 1):
+        if abs(value(s) - value(s - 1)) > 1:
+            out.append([s])
+        elif len(out[-1]) > 1 and value(s) - value(s - 1) == value(out[-1][-1]) - value(out[-1][-1] - 1):
+            out[-1][-1] = s
+        else:
+            out[-1].append(s)
+    return out
+
+
+def curve(value, last, **more):
+    return path(''.join('M' + 'L'.join(point(s, value(s)) for s in run) for run in runs(value, last)), **more)
+
+
+def axes():
+    out = [path(f'M{point(0, 262)}V{GRAPH.y}H{GRAPH.x + (GRAPH.most + 8) * GRAPH.across:g}', INK, 1.2)]
+    for s in range(0, GRAPH.most + 1, 50):
+        x = GRAPH.x + s * GRAPH.across
+        out.append(path(f'M{x:g} {GRAPH.y}v5', INK) + text(x, GRAPH.y + 18, s, 11, 'middle'))
+    for answer in (0, 70, 100, 130, 255):
+        y = GRAPH.y - answer * GRAPH.up
+        out.append(path(f'M{GRAPH.x - 5} {y:g}H{GRAPH.x + GRAPH.most * GRAPH.across:g}', '#cccccc', 0.8, stroke_dasharray='2 3')
+                   + text(GRAPH.x - 9, y + 4, answer, 11, 'end'))
+    middle = GRAPH.x + GRAPH.most * GRAPH.across / 2
+    return out + [text(middle, GRAPH.y + 38, 's, the sum of the other three (goes on to 765; the answer stays 0)', 12, 'middle'),
+                  text(GRAPH.x + 8, GRAPH.y - 255 * GRAPH.up - 14, 'answer', 12)]
+
+
+def worked_marks():
+    out = []
+    for (a, s, answer), (dx, dy, anchor) in zip(WORKED, [(12, -8, 'start'), (-12, 5, 'end'), (12, 5, 'start'), (-12, 16, 'end')]):
+        assert filtered_of(a, s) == answer
+        x, y = map(float, point(s, answer).split())
+        out.append(f'<circle cx="{x:g}" cy="{y:g}" r="5" fill="{YELLOW}" stroke="{INK}" stroke-width="1.5"/>'
+                   + text(x + dx, y + dy, f'({a}, {s}) → {answer}', 12, anchor, stroke='white', stroke_width=4, paint_order='stroke'))
+    return out
+
+
+def block_of_four(x, y):
+    side, out = 62, []
+    for i, (words, colour) in enumerate([('a', YELLOW), ('b', PALE), ('c', PALE), ('d', PALE)]):
+        left, top = x + i % 2 * side, y + i // 2 * side
+        out += [box(left, top, side, side, colour, INK), text(left + side / 2, top + 37, words, 18, 'middle')]
+    out += [text(x + side * i + side / 2, y - 6, ('even', 'odd')[i], 11, 'middle') for i in (0, 1)]
+    return out + [text(x - 6, y + side * i + side / 2 + 4, ('even', 'odd')[i], 11, 'end') for i in (0, 1)]
+
+
+def draw_filter():
+    a = WORKED[0][0]
+    kept = [s for s in range(GRAPH.most + 1) if filtered_of(a, s) == a]
+    assert kept == list(range(kept[0], kept[-1] + 1))
+    assert all(filtered_of(*line[:2]) == line[2] for line in OTHERS)
+    x, y = GRAPH.x + kept[0] * GRAPH.across, GRAPH.y - 255 * GRAPH.up
+    band = box(x, y, (kept[-1] - kept[0]) * GRAPH.across, 255 * GRAPH.up, '#7cc4ee44')
+    words = ['s = b + c + d', 't = 4a − s, clamped to 0..255', 'answer: a if |t − a| < 30,', 'else t', '', 'Further lines, (a, s) → answer:']
+    out = [*block_of_four(70, 92), lines(24, 250, words + [f'({b}, {s}) → {answer}' for b, s, answer in OTHERS], 13, 19), band, *axes(),
+           text(x + (kept[-1] - kept[0]) * GRAPH.across / 2, y + 16, f's = {kept[0]} to {kept[-1]}:', 12, 'middle'),
+           text(x + (kept[-1] - kept[0]) * GRAPH.across / 2, y + 32, 'a is kept', 12, 'middle'),
+           curve(lambda s: reversed_of(a, s), GRAPH.most, stroke=RED, thick=1.4, stroke_dasharray='5 4'),
+           curve(lambda s: filtered_of(a, s), GRAPH.most, stroke=BLUE, thick=3.2), *worked_marks(),
+           path(f'M{GRAPH.x + 418} 150h34', BLUE, 3.2), text(GRAPH.x + 460, 154, f'answer, a = {a}', 12),
+           path(f'M{GRAPH.x + 418} 174h34', RED, 1.4, stroke_dasharray='5 4'), text(GRAPH.x + 460, 178, 't', 12)]
+    said = ('; '.join(words[:3]) + f' else t. For a = {a} the answer over s: a for s = {kept[0]} to {kept[-1]}, t elsewhere. '
+            'Worked lines, (a, s) and the answer: ' + ', '.join(f'({b}, {s}) {answer}' for b, s, answer in WORKED) + '.')
+    return picture(496, 'The reverse filter of a 2x2 block', said, out)
+
+
+# --- The files.
+
+DRAWINGS = {'v1.svg': lambda: draw_layout(V1), 'v2.svg': lambda: draw_layout(V2), 'widening.svg': draw_widening,
+            'payload.svg': draw_payload, 'filter.svg': draw_filter}
+
+
+def main():
+    drawn = {name: draw() for name, draw in DRAWINGS.items()}
+    if sys.argv[1:] == ['--check']:
+        found = {name: open(os.path.join(FOLDER, name), encoding='utf-8').read() for name in os.listdir(FOLDER)} if os.path.isdir(FOLDER) else {}
+        wrong = sorted(name for name in drawn.keys() | found.keys() if drawn.get(name) != found.get(name))
+        print('drawings: docs/drawings is ' + (f'not what docs/drawings.py draws: {", ".join(wrong)}' if wrong else 'what docs/drawings.py draws'))
+        return bool(wrong)
+    if sys.argv[1:]:
+        print(__doc__)
+        return 2
+    os.makedirs(FOLDER, exist_ok=True)
+    for name, drawing in drawn.items():
+        open(os.path.join(FOLDER, name), 'w', encoding='utf-8').write(drawing)
+    return 0
+
+
+if __name__ == '__main__':
+    sys.exit(main())
