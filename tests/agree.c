@@ -2,7 +2,7 @@
 
    A case is a picture, a list of rectangles and two earlier pictures of its size, all of them made of the seed and the case's number. The
    picture is split as V1, and main, then auxiliary view go onto the first earlier picture over the list; the same as V2 onto the second.
-   Then every byte of every lent buffer is compared with what the statement says, worked out here from document 01's words alone: the
+   Then every byte of every lent buffer is compared with what the statement says, worked out here from the rules' words alone: the
    views are the picture's samples, luma and chroma are the picture's where some rectangle takes them, and as before elsewhere.
 
        agree [--seed N] [--cases N] [--seconds N] [--only CASE]

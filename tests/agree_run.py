@@ -1,5 +1,5 @@
 #!/usr/bin/env python3
-"""What tests/stored/agree_run.out must be, worked out from demand 3 and document 01 alone: how many samples lie inside the rectangles,
+"""What tests/stored/agree_run.out must be, worked out from demand 3 and the rules alone: how many samples lie inside the rectangles,
 widened for chroma, and how many elsewhere; none differs, and no refusal changes a byte. Fails where the stored file says otherwise."""
 import os, sys
 

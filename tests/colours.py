@@ -1,6 +1,6 @@
 #!/usr/bin/env python3
 """The program `colours` on whole inputs: what it writes is compared byte for byte with lines worked out here from the
-formulas of document 01, and a write that fails has to end it. Run `rt check colours` first; then run this anywhere.
+formulas of the rules, and a write that fails has to end it. Run `rt check colours` first; then run this anywhere.
 One line for each case, and last `colours: N cases, 0 wrong`; exit status 1 if any is wrong."""
 import os
 import platform

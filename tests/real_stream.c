@@ -7,11 +7,11 @@
 
      padded       each view as the split made it, sides rounded up to 16: every sample has to be the picture's
      cropped      each view cut to the picture's size, odd sides rounded up to even, as 4:2:0 has it; x264 fills it up again and sets the
-                  stream's crop, so the decoded view is smaller: every sample has to be what document 01 takes from a view of that size
+                  stream's crop, so the decoded view is smaller: every sample has to be what the rules takes from a view of that size
      crop unused  each view as the split made it, with the same crop set, and a decoder that is told to leave it: as padded
 
    Compared are the streams' headers, the parts that come back out of the payloads, the decoded views with those that were encoded, and
-   every sample of the three planes, padding included, with document 01's words, said again below.
+   every sample of the three planes, padding included, with the rules' words, said again below.
 
        real_stream FOLDER               every size; FOLDER is for the files that x264 and ffmpeg read and write
        real_stream FOLDER --self-test   each of the faults below has to be noticed, by the comparisons that it is for
@@ -39,7 +39,7 @@ typedef struct { uint16_t width, height; size_t stride, rows; uint8_t *at[3]; } 
 /* What a stream of a payload carries. */
 typedef struct { uint16_t rects[4 * CELLS]; size_t numbers; uint8_t pairs[2 * CELLS]; size_t pair_bytes; Bytes data; } Stream;
 
-/* What was compared and what of it was wrong. Of the samples that the lists cover, `lost` are those that document 01 does not take from
+/* What was compared and what of it was wrong. Of the samples that the lists cover, `lost` are those that the rules does not take from
    views of this size, and `changed` those that are not the picture's in the end, both on one road. width and height: the decoded view's. */
 typedef struct { uint64_t compared, wrong; } Count;
 typedef struct { Count headers, parts, views, samples; uint64_t lost, changed; uint16_t width, height; } Tally;
@@ -267,7 +267,7 @@ static void read_back(Tally *t, Bytes payload, const Stream *luma_sent, const St
 
 /* ---- What has to be ---- */
 
-/* Whether document 01 takes the chroma sample at (row, col) from an auxiliary view of vw x vh. */
+/* Whether the rules takes the chroma sample at (row, col) from an auxiliary view of vw x vh. */
 static int from_auxiliary(int layout, size_t vw, size_t vh, size_t row, size_t col)
 {
     const size_t chroma_width = (vw + 1) / 2, chroma_height = (vh + 1) / 2, w = up16(vw);

@@ -1,6 +1,6 @@
 #!/usr/bin/env python3
 """The payloads of tests/stored/replay_wire.in, and what has to be printed of each: a generator and a reader of AVC444 payloads written from
-the words of request E1 of document 02 alone (6, an output that is too short, is of document 01's table). With --write both files are
+the words of R110 to R117 alone (6, an output that is too short, is of the rules' table). With --write both files are
 written anew; without it they have to be what would be written.
 
 Then some wrong readers are asked, and each has to answer at least one of the stored payloads otherwise: the cases notice it.

@@ -1,7 +1,7 @@
 #!/usr/bin/env python3
 """The cases of tests/stored/replay_write.in that have a number for a name, and what has to be printed of each: a generator and a writer of
-AVC444 payloads written from the words of requests E7 and E1 of document 02 alone (7, a list that is not in fours, and 6, an output that is
-too short, are of document 01's table; the size in kinds 1 and 2 is the one that docs/DIFFERENCES.md has of the standard). With --write both
+AVC444 payloads written from the words of R110 to R124 of docs/RULES.md alone (7, a list that is not in fours, and 6, an output that is
+too short, are of the rules' table; the size in kinds 1 and 2 is the one that docs/DIFFERENCES.md has of the standard). With --write both
 files are written anew behind the lines that were written by hand; without it they have to be what would be written. The lines by hand have
 to be what the writer here says, too.
 

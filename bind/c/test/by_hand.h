@@ -88,7 +88,7 @@ typedef struct {
     size_t luma[4], chroma[4]; /* left, top, right, bottom; all 0: nothing */
 } Taking;
 
-/* Document 01's rectangles on a 5x5 picture and a 16x16 view, worked by hand, and three more. */
+/* The rules's rectangles on a 5x5 picture and a 16x16 view, worked by hand, and three more. */
 static const Taking takings[] = {
     {4, {5, 0, 5, 4}, {0, 0, 0, 0}, {4, 0, 6, 4}},
     {4, {4, 0, 4, 4}, {0, 0, 0, 0}, {0, 0, 0, 0}},

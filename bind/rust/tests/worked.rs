@@ -1,4 +1,4 @@
-//! The numbers that document 01 works by hand, through this crate's calls. A picture's planes are read by splitting it: the two views
+//! The numbers that the rules works by hand, through this crate's calls. A picture's planes are read by splitting it: the two views
 //! hold every sample.
 
 use haythaw::{Avc444Layout, ExclusiveRectangle, Yuv420Frame, Yuv444Frame};

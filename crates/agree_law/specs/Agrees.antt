@@ -1,5 +1,5 @@
 -- Demand 3, in its own sentences: "Both then hold its luma at each picture pixel inside a rectangle and its chroma in each widened
--- rectangle, as document 01 widens it. All other picture luma and all other chroma is as it was before."
+-- rectangle, as R60 widens it. All other picture luma and all other chroma is as it was before."
 --
 --   Picture               what the planes of a picture hold, by row and column: luma, and chroma of the plane CU or CV
 --   pictureOf z p         that of three lent planes of a picture of the size z: its padded planes, whose rows start a stride apart

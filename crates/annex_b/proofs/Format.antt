@@ -1,4 +1,4 @@
--- The laws of the length-prefixed test: it is the document's sentence, it has one answer, and which first units are read as Annex B.
+-- The laws of the length-prefixed test: it is the rule's sentence, it has one answer, and which first units are read as Annex B.
 -- Assumes nothing.
 use Prim.Native.Nat.{ℕ, _≤_, _<_}
 use native.Mathlib.Omega.{arith}

@@ -1,4 +1,4 @@
--- The computed test `madeFrom`, and that it agrees with the document's `Made`, in both directions.
+-- The computed test `madeFrom`, and that it agrees with the rule's `Made`, in both directions.
 -- Assumes nothing.
 use Prim.Native.Nat.{ℕ, suc, _+_, _*_, _-_, _≤_, _<_}
 use native.Mathlib.Nat.{add-zero}

@@ -1,4 +1,4 @@
--- The conversion to Annex B (document 01, "H.264 payload form"): "Conversion writes 00 00 00 01 and the unit; a length of 0 writes the
+-- The conversion to Annex B (R102 to R104): "Conversion writes 00 00 00 01 and the unit; a length of 0 writes the
 -- start code alone; it stops at a unit that runs past the end or at fewer than 4 bytes."
 --
 --   countOf s            the bytes written: the units' lengths summed, with 4 for each

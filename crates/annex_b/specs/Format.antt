@@ -1,4 +1,4 @@
--- Length-prefixed or Annex B (document 01, "H.264 payload form"): "Length-prefixed exactly when: not empty, not starting 00 00 01 or
+-- Length-prefixed or Annex B (R100): "Length-prefixed exactly when: not empty, not starting 00 00 01 or
 -- 00 00 00 01, and it is wholly made of units, each a big-endian u32 length above 0 and that many bytes."
 --
 --   startCode           00 00 00 01, which the conversion writes in front of a unit

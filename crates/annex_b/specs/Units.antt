@@ -1,9 +1,9 @@
--- The units of an H.264 payload (document 01, "H.264 payload form"): each is a big-endian u32 length and that many bytes.
+-- The units of an H.264 payload (R100, R101): each is a big-endian u32 length and that many bytes.
 --
 --   unitLengthOf s at   the big-endian u32 at a position
 --   unitEnd s at        where the unit at a position ends
 --   unitAt s at         a whole unit stands at a position; where not, it stops: "at a unit that runs past the end or at fewer than 4 bytes"
---   Values              document 01's number, and the values that a step answers; aUnit and noUnit are the two kinds there are
+--   Values              the number, and the values that a step answers; aUnit and noUnit are the two kinds there are
 --   valuesOf            what they are for each case of a step
 --   stepOf s at         what a step from a position answers, in these values
 --   unitsFrom s at      the bytes of each unit from a position on, until the stop

@@ -1,6 +1,6 @@
 // The form of an H.264 payload: whether it is made of units with their length in front, and the conversion of such units to Annex B.
 //
-// `is_avc_format` is yes exactly where document 01 says so, in its words (specs/Format.antt). `avc_to_annex_b_into` promises its number,
+// `is_avc_format` is yes exactly where R100 says so, in its words (specs/Format.antt). `avc_to_annex_b_into` promises its number,
 // its count and every byte of the output for every input (specs/AnnexB.antt), and the output is never longer than the input. No public
 // call asks anything of its caller.
 pub mod units; // the units that a payload is made of

@@ -1,4 +1,4 @@
--- The auxiliary views (document 01, "Widening, and which samples are taken": "V1 auxiliary" and "V2 auxiliary").
+-- The auxiliary views (R62, R65 to R71).
 --
 --   auxiliaryIn t w a r c               row r, column c lies in the widened area a, and the auxiliary view w of the layout t gives both U and V
 --                                 there (layout's `fed`: the main view leaves the sample out, and the pair exists)

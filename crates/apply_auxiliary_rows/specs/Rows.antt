@@ -1,4 +1,4 @@
--- What an auxiliary view gives to one row of a chroma plane of the picture (document 01, "V1 auxiliary" and "V2 auxiliary": where a
+-- What an auxiliary view gives to one row of a chroma plane of the picture (R65 to R70: where a
 -- sample lives and which exist is `layout`'s).
 --
 --   viewSample w vy vu vv s              the sample of the view w, whose planes are vy, vu and vv, at a spot

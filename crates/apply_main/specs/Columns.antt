@@ -1,4 +1,4 @@
--- What a rule takes of a small plane, as lists: for examples that are computed (document 01, "Numbers worked by hand").
+-- What a rule takes of a small plane, as lists: for examples that are computed (R132).
 --
 --   columnsTaken n m t     for each of the first n rows, the columns below m that t takes, in order
 use Prim.Native.Nat.{ℕ, zero, suc}

@@ -1,4 +1,4 @@
--- The main view (document 01, "Widening, and which samples are taken"). vw and vh are the view's width and height.
+-- The main view (R62 to R64). vw and vh are the view's width and height.
 --
 --   mainLuma z w left top right bottom r c      "Luma: row from top to below min(bottom, height) and below vh; col from left to below the
 --                                               least of right, area right and vw"

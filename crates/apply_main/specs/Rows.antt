@@ -1,4 +1,4 @@
--- Where a row of the main view reads (document 01, "Widening, and which samples are taken"), and what the writers of a row ask of their
+-- Where a row of the main view reads (R63, R64), and what the writers of a row ask of their
 -- callers, as plain inequalities: a picture's plane of n bytes is written from a view's plane p of m bytes.
 --
 --   halved plane stride r c                     "from U and V at row/2, col/2": halves are floor

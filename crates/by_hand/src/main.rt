@@ -1,5 +1,5 @@
-// The lines of document 01, "Numbers worked by hand", that are not marked P: each is run through the public functions, and the file
-// `stdout` beside src/ was written by hand from the document.
+// The numbers worked by hand that are not marked P (docs/RULES.md, R131 to R134): each is run through the public functions, and the file
+// `stdout` beside src/ was written by hand from the rules.
 use libc::STDOUT_FILENO;
 use picture::Size;
 use view::View;

@@ -1,6 +1,6 @@
 // The calls that no exported function reaches, run: rows and parts as the caller's own bytes, a payload written and read, and both layouts
 // onto two earlier pictures. Every sample and every byte of a part is a letter, so a part is printed as it stands, between brackets.
-// The file `stdout` beside src/ was written by hand from documents 01 and 02.
+// The file `stdout` beside src/ was written by hand from the rules (docs/RULES.md).
 use libc::STDOUT_FILENO;
 use picture::Size;
 use view::View;

@@ -1,4 +1,4 @@
--- The colour rules of MS-RDPEGFX 3.3.8.3.1 and the filter of 3.3.8.3.2, in the words of document 01, "Colour".
+-- The colour rules of MS-RDPEGFX 3.3.8.3.1 and the filter of 3.3.8.3.2, in the words of R30 to R35.
 -- A colour is three bytes r g b, or y u v; a pixel is the list of the four bytes red, green, blue, alpha.
 -- A block is the list of its four chroma samples: the even-even one first, then right, below, diagonal.
 --   forwardOf r g b   Y, U and V of a colour; lumaWhole, chromaUWhole, chromaVWhole: each before its clamp

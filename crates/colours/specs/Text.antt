@@ -1,4 +1,4 @@
--- The text that the program writes, as a list of ASCII codes; document 01, the program `colours`.
+-- The text that the program writes, as a list of ASCII codes; R140, R141.
 --   decimalOf n      the byte n in decimal
 --   numberOf n end   n in decimal, then the byte end
 --   lineOf r g b     the line of a triple: Y U V, then R G B after the reverse

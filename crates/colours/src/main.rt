@@ -1,6 +1,6 @@
 // Reads RGB triples from standard input and writes one line for each: Y U V, then R G B after the reverse, in decimal with
 // single spaces. A remainder of n = 1 or 2 bytes gives a last line `short n`.
-// Promised: the text that is made of a bufferful is exactly the document's (`textOf` of specs/Text.antt). A bufferful is a
+// Promised: the text that is made of a bufferful is exactly the rule's (`textOf` of specs/Text.antt). A bufferful is a
 // whole number of triples unless the input ends in it, so the input may arrive in pieces of any size. A write that fails ends
 // the program.
 use libc::STDIN_FILENO;

@@ -3,7 +3,7 @@
 --   odd, even                   of a column
 --   woven evens odds k          byte k of a row that has `evens` at its even places and `odds` at its odd ones
 --   fourth u v at c             of the even columns, those by fours are from u, those between from v: the sample of column c, where
---                               the row's samples start at `at` (document 01, "V2 auxiliary")
+--                               the row's samples start at `at` (R69)
 use Prim.Native.Nat.{ℕ, _+_, _/_, _%_}
 use mathlib.Core.Bool.{Bool, cond}
 use mathlib.Core.List.{List}

@@ -1,4 +1,4 @@
--- A plane after the average (document 01, "From RGBA").
+-- A plane after the average (R42).
 --
 --   averaged p r c     what row r, column c holds after the average of the plane p, whatever p is: p r c is its sample there before
 use Prim.Native.Nat.{ℕ, _+_, _%_}

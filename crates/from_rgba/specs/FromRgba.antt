@@ -1,4 +1,4 @@
--- A picture from RGBA pixels (document 01, "From RGBA", refusals 2 and 1, and the order "from RGBA 2, 1").
+-- A picture from RGBA pixels (R41 to R43; numbers 2, then 1: R22).
 --
 --   convertedOf px z r c   Y, U and V of the input's pixel at row r, column c: four bytes a pixel, red, green, blue and an alpha that is
 --                          ignored (said in Rows.antt)

@@ -1,4 +1,4 @@
--- The planes of a picture that is made from RGBA pixels, before the average (document 01, "From RGBA"). The picture has `width` columns and
+-- The planes of a picture that is made from RGBA pixels, before the average (R41). The picture has `width` columns and
 -- `height` rows; its planes have both rounded up to 16.
 --
 --   colourAt px k                  Y, U and V of pixel k of the bytes px: four bytes a pixel, red, green, blue and an alpha that is ignored

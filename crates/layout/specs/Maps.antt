@@ -1,5 +1,5 @@
 -- The two maps of each layout between the chroma of the picture and the auxiliary view: MS-RDPEGFX 3.3.8.3.2 (V1) and 3.3.8.3.3 (V2),
--- as document 01 gives them under "Widening, and which samples are taken". All halves and quarters are floor.
+-- as R63, R65 to R69 and R82 give them. All halves and quarters are floor.
 --
 --   Chroma, Layout     which chroma plane of the picture, CU or CV; V1 or V2
 --   Part               a plane of a view: PY, PU or PV
@@ -8,7 +8,7 @@
 --   shift k n          U and V share something in two halves of n: where k's half starts
 --   halfOf n j         whose half j is in
 --   into n j           how far it is in that half
---   upperOf r          the document's n, for an odd row r
+--   upperOf r          R65's n, for an odd row r
 --   toMain, fromMain   where the even-even sample of a block lives in the main view, and whose sample a spot of its chroma holds
 --   toV1, toV2 W       where a place lives in the auxiliary view: an apply call reads there
 --   fromV1, fromV2 W   whose sample a spot of the auxiliary view holds: a split writes it there

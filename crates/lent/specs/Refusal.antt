@@ -1,4 +1,4 @@
--- Refusals by number, in the order in which document 01 gives them.
+-- Refusals by number, in the order in which a call gives them (R22).
 --
 --   refusal tests     the number of the first test that holds, 0 where none does: each test stands beside its number
 --   NoneHolds tests   no test of the list holds

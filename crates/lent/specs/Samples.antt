@@ -1,4 +1,4 @@
--- A sample of a plane whose rows start `stride` bytes apart (document 01, "Sizes and lent memory": row r starts at r x stride).
+-- A sample of a plane whose rows start `stride` bytes apart (R6: row r starts at r x stride).
 use Prim.Native.Nat.{ℕ, _+_, _*_}
 use mathlib.Core.List.{List}
 use lib.ListN.{getD}

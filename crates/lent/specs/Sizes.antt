@@ -1,4 +1,4 @@
--- Sizes rounded up, and buffers that are too short (document 01, "Sizes and lent memory").
+-- Sizes rounded up, and buffers that are too short (R2, R5, R23).
 --
 --   roundUp m n             n, rounded up to a multiple of m: 16 for stride and rows, 2 for the widened area
 --   halfUp n                half of n, rounded up: a view's chroma width and height

@@ -1,4 +1,4 @@
--- A fresh picture (document 01, "Sizes and lent memory" and the order "new 1").
+-- A fresh picture (R40; number 1: R22).
 --
 --   newNumberOf z ny nu nv    the number that `new` answers, from the size and the planes' lengths
 --   freshLuma, freshChroma    "A fresh picture has Y 0, U and V 128"

@@ -1,4 +1,4 @@
--- A picture's size record and its planes (document 01, "Sizes and lent memory" and refusal 1).
+-- A picture's size record and its planes (R1 to R4; number 1: R22).
 --
 --   strideOf z, rowsOf z      width and height rounded up to 16: always worked out from the size, never believed from a caller
 --   allocationSizeOf z        3 x stride x rows

@@ -1,4 +1,4 @@
--- The number of an apply call: main view or auxiliary (document 01, "Numbers a call may answer": "apply 1, 7, 3, 4").
+-- The number of an apply call: main view or auxiliary (R22: 1, 7, 3, 4).
 --
 --   notFours nr       7: the list's length is not a multiple of 4
 --   applyNumberOf z w ny nu nv nr my mu mv     the number that the call answers, 0 or the first refusal in that order. z is the picture's

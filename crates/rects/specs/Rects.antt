@@ -1,4 +1,4 @@
--- Rectangle lists and the widened area (document 01, "Sizes and lent memory" and "Widening, and which samples are taken").
+-- Rectangle lists and the widened area (R10, R60 to R62).
 --
 --   a rectangle list            lent numbers in fours: left, top, right, bottom (right and bottom exclusive)
 --   rectAtOf rects i            rectangle i of the list

@@ -1,4 +1,4 @@
--- The number of a split and its answer (document 01, "Numbers a call may answer" and "Limits"), from the size and the lengths alone.
+-- The number of a split and its answer (R22, R80, R83), from the size and the lengths alone.
 --
 --   tooLarge z               5: stride or rows is above 65,535
 --   viewShort z n            6, of one view with planes of the lengths n: a plane is shorter than what would be written

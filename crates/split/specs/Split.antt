@@ -1,4 +1,4 @@
--- Both views of a picture (document 01, "Split writes two views of stride by rows", "Numbers a call may answer" and "Limits"). What a view
+-- Both views of a picture (R22, R80 to R83). What a view
 -- holds, `mainSample` and `auxiliarySample`, and `Written`, are said in split_views (specs/Views.antt), the number and the answer, `splitNumberOf`
 -- and `splitAnswerOf`, in Number.antt; both are passed on here.
 --

@@ -1,4 +1,4 @@
--- What the two views of a split hold (document 01, "Split writes two views of stride by rows").
+-- What the two views of a split hold (R80 to R82).
 --
 --   Planes, planes y u v     three lent buffers: those of the picture, of the main view, of the auxiliary view
 --   mainSample stride p q r c    the main view's plane q, at row r and column c: "Main: the luma plane and the even-even chroma"

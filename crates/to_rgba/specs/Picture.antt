@@ -1,4 +1,4 @@
--- Picture to RGBA: its number, its count and every byte of its output (document 01, "Numbers a call may answer" and "Colour": "The
+-- Picture to RGBA: its number, its count and every byte of its output (R22, R50 to R52: "The
 -- rectangle is clipped to the picture; an empty one writes nothing and answers 0").
 --
 --   Rect                   a rectangle: left, top, right and bottom, the last two exclusive

@@ -1,4 +1,4 @@
--- View to RGBA: its number, its count and every byte of its output (document 01, "Numbers a call may answer" and "Colour").
+-- View to RGBA: its number, its count and every byte of its output (R22, R53).
 --
 --   viewToRgbaCountOf w      bytes written: 4 x the view's pixels
 --   viewToRgbaNumberOf w count ny nu nv nout      3, 4, then 6: those of the view, and the output, of nout bytes, is shorter than what

@@ -1,4 +1,4 @@
--- The pixel at a row and a column (document 01, "Colour").
+-- The pixel at a row and a column (R51, R53).
 --
 --   blockOf p stride r c            the 2x2 block of a plane: the sample at (r, c), then right, below, diagonal
 --   cornersAt p at below            the same, by the places where its two rows start

@@ -1,4 +1,4 @@
--- Two views that a viewer could not tell apart (document 01, "Sizes and lent memory": "Bytes between width and stride, or after the last
+-- Two views that a viewer could not tell apart (R9: "Bytes between width and stride, or after the last
 -- row, never reach any answer").
 --
 --   SameSamples p xs q ys                two planes of p's width and height, of any strides, agree on every visible sample

@@ -1,4 +1,4 @@
--- A row of a view's plane (document 01, "Sizes and lent memory": "Row r exists exactly when r is below that plane's height. It starts
+-- A row of a view's plane (R6 to R8: "Row r exists exactly when r is below that plane's height. It starts
 -- at r x stride and is that plane's width long. A row is answered as the caller's own bytes, not copied").
 --
 --   presentIn, startIn, lengthIn, bytesIn     what each case of a start stands for: a yes or no, the start, the length and the bytes;

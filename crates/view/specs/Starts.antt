@@ -1,4 +1,4 @@
--- Where a row of a view's plane starts (document 01, "Sizes and lent memory": "Row r exists exactly when r is below that plane's height. It
+-- Where a row of a view's plane starts (R6: "Row r exists exactly when r is below that plane's height. It
 -- starts at r x stride"). The row itself is said in Rows.antt.
 --
 --   rowStartOf stride rows r      where row r of a plane of so many rows starts, or that it is absent

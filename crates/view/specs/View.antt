@@ -1,5 +1,4 @@
--- A view: its sizes, its planes, and the number that it is answered with (document 01, "Sizes and lent memory" and "Numbers a call may
--- answer").
+-- A view: its sizes, its planes, and the number that it is answered with (R5, R22).
 --
 --   View                      a view's width, height, luma stride and chroma stride; its planes y, u and v are lent beside it
 --   Plane                     the stride, width and height of one plane

@@ -1,6 +1,6 @@
 // A 4:2:0 view over three lent planes: the sizes of its planes, the number that it is answered with, and where a row of a plane starts.
 //
-// A view is refused with 3 or 4 exactly as the document's table says (proofs/Exactly.antt), for every size, stride and length. A row of a
+// A view is refused with 3 or 4 exactly as the rules' table says (proofs/Exactly.antt), for every size, stride and length. A row of a
 // plane starts at row x stride (specs/Starts.antt); the row calls, which answer it as the caller's own bytes, are in `rows`. The sizes of
 // a view are its fields: the caller has them by value.
 pub mod rows; // its rows, as parts of the caller's planes

@@ -1,4 +1,4 @@
--- Writing and reading (document 02, E7): "Reading what was written gives back the same parts, each list as its little-endian bytes; a
+-- Writing and reading (R123, R124): "Reading what was written gives back the same parts, each list as its little-endian bytes; a
 -- payload that E1 accepts, whose size field is the standard's and whose first stream carried is shorter than 2 to the power 30 bytes, is
 -- written back to the same bytes."
 --

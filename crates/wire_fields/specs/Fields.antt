@@ -1,4 +1,4 @@
--- The numbers of an AVC444 payload (document 02, E1): "All numbers are little-endian"; "a little-endian u32 whose low 30 bits are the first
+-- The numbers of an AVC444 payload (R110, R111, R113): "All numbers are little-endian"; "a little-endian u32 whose low 30 bits are the first
 -- stream's size and whose top two bits say what is carried"; "The quantiser byte is six bits of value and two flags".
 --
 --   u16At s at, u32At s at      the little-endian number whose first byte stands at `at`

@@ -1,4 +1,4 @@
--- The AVC444 payload put together, as document 02 (E1) says it: what a reader has to take apart.
+-- The AVC444 payload put together, as R111, R112 and R114 say it: what a reader has to take apart.
 --
 --   Parts, bytesOf p        the parts of a stream, each as its bytes, and the stream: its count, its rectangles, its pairs, its H.264 bytes
 --   Sound p                 the count is a u32, and there are that many rectangles of four u16 and that many pairs of bytes

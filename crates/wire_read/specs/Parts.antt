@@ -1,4 +1,4 @@
--- The parts of a stream of an AVC444 payload (document 02, E1: "The answer shows the rectangles, pairs and H.264 bytes as parts of the
+-- The parts of a stream of an AVC444 payload (R115: "The answer shows the rectangles, pairs and H.264 bytes as parts of the
 -- payload"), and one rectangle or pair of it.
 --
 --   streamOf w a, placesOf s w      one of the two streams of an answer, and of the payload s: all 0 where it is not carried, and in a refusal

@@ -1,4 +1,4 @@
--- Reading the AVC444 payload (document 02, E1): "a little-endian u32 whose low 30 bits are the first stream's size and whose top two bits
+-- Reading the AVC444 payload (R110 to R117): "a little-endian u32 whose low 30 bits are the first stream's size and whose top two bits
 -- say what is carried (0 both, 1 luma only, 2 chroma only), then one or two AVC420 streams. Each has a u32 count, that many rectangles of
 -- four u16, that many pairs of quantiser and quality bytes, and the H.264 bytes to the stream's end."
 --
@@ -9,7 +9,7 @@
 --                               payload's end: "in kinds 1 and 2 the one stream runs to the payload's end"
 --   streamIn s a e              where the parts of the stream from a to e stand
 --   pastEnd s a e               "a count, rectangle or quantiser pair runs past its stream"
---   FoundValues, foundOf        document 02's number and a stream's places, for each case of a stream looked for
+--   FoundValues, foundOf        the number and a stream's places, for each case of a stream looked for
 --   streamAt, carriedAt         these of the stream from a to e, where it is carried
 --   headNumberOf s              "9 for a payload below 4 bytes, then 8 for kind 3, then 9 when the size, in any kind, runs past the payload"
 --   streamsPast s               10, by a stream that is carried

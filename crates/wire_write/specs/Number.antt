@@ -1,4 +1,4 @@
--- The numbers of a call that writes an AVC444 payload (document 02, E7): "8 when the kind is above 2, then 7, also when there isn't one
+-- The numbers of a call that writes an AVC444 payload (R122): "8 when the kind is above 2, then 7, also when there isn't one
 -- pair for each rectangle, then 11 when the first stream carried, its count, rectangles and pairs included, is 2 to the power 30 bytes or
 -- longer or a rectangle count doesn't fit in 32 bits, then 6". "For kinds 1 and 2 the parts of the stream not carried are ignored."
 --

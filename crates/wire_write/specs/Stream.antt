@@ -1,4 +1,4 @@
--- What is written of a stream (document 02, E7): from a rectangle list, "their quantiser and quality pairs and the H.264 bytes", the parts
+-- What is written of a stream (R112, R120): from a rectangle list, "their quantiser and quality pairs and the H.264 bytes", the parts
 -- of E1's stream, "each list as its little-endian bytes".
 --
 --   numberBytes ns          numbers of 16 bits, each as its two bytes

@@ -1,4 +1,4 @@
--- Writing the AVC444 payload (document 02, E7): "From a kind, two rectangle lists, their quantiser and quality pairs and the H.264 bytes,
+-- Writing the AVC444 payload (R120, R121): "From a kind, two rectangle lists, their quantiser and quality pairs and the H.264 bytes,
 -- write the payload of E1." "For kinds 1 and 2 the parts of the stream not carried are ignored. The count is the bytes written."
 --
 --   Given, given                what is lent for a stream: a rectangle list, its pairs, its H.264 bytes

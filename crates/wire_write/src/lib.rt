@@ -1,4 +1,4 @@
-// The AVC444 payload written into a lent output (document 02, request E7): what `wire_read::read` reads.
+// The AVC444 payload written into a lent output (docs/RULES.md, R120 to R124): what `wire_read::read` reads.
 //
 // The number is found from the lengths before anything is written, so that a refusal changes no byte. No public call asks anything of
 // its caller.

@@ -1,4 +1,4 @@
--- The lines of document 01, "Numbers worked by hand", that are marked P, and what each says.
+-- The numbers worked by hand that are marked P (R130 to R132), and what each says.
 --   Line     a line of the table: one constructor for each kind
 --   Right l  what the line l says
 --   worked   the table

@@ -1,4 +1,4 @@
--- Each channel is the document's formula, in natural numbers: `Formulas` says so of bytes. Assumes nothing.
+-- Each channel is the rule's formula (R31), in natural numbers: `Formulas` says so of bytes. Assumes nothing.
 use mathlib.Core.Path.{sym, _∙_}
 use borrow.Author.Needs.{needs}
 use Rattle.colour.specs.Colour.{forwardOf}

@@ -1,4 +1,4 @@
--- Each channel is the document's formula, in natural numbers: `Formulas` says so. Assumes nothing.
+-- Each channel is the rule's formula (R32), in natural numbers: `Formulas` says so. Assumes nothing.
 use mathlib.Core.Path.{sym, _∙_}
 use mathlib.Core.List.{[], _∷_}
 use borrow.Author.Needs.{needs}
