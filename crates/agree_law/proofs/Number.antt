@@ -26,7 +26,7 @@ use Rattle.rects.specs.Number.{notFours, applyNumberOf}
 use Rattle.split.specs.declared.number.PlaneLengths.{PlaneLengths}
 use Rattle.split_views.specs.Fits.{Room}
 use Rattle.split.specs.Split.{Planes, lengthsOf, viewShort, splitNumberOf}
-use Rattle.split.proofs.Calls.{view-room}
+use Rattle.split.proofs.Short.{view-room}
 use Rattle.split.proofs.Exactly.{split-0-exactly, small-exactly}
 use Rattle.agree_law.specs.Through.{viewOf, mainViewOf, auxiliaryViewOf, withMain, firstOf, applyNumberOn, throughNumberOf, earlierNumberOf, Lent}
 use Rattle.agree_law.specs.Both.{bothNumberOf}
