@@ -40,7 +40,7 @@ unfolding sample
 sample-painted w h t s xs r c hr hc fits = painted-at w h t s xs r c hr hc fits
 
 -- a view that a split has written holds what it was to hold
-written : (z : Size) (s : ViewSamples) (o : Planes) → Room (length (o .y)) (length (o .u)) (length (o .v)) (strideOf z) (rowsOf z) → (t : Part) (r c : ℕ) → r < side t (rowsOf z) → c < side t (strideOf z)
+pub written : (z : Size) (s : ViewSamples) (o : Planes) → Room (length (o .y)) (length (o .u)) (length (o .v)) (strideOf z) (rowsOf z) → (t : Part) (r c : ℕ) → r < side t (rowsOf z) → c < side t (strideOf z)
     → let v = threeOf (viewAfter 0 z s o) in
     partSample (viewOf z) (v .y) (v .u) (v .v) t r c ≡ s t r c
 written z s o long PY r c hr hc = sample-painted (strideOf z) (rowsOf z) whole (s PY) (o .y) r c hr hc (long .y-room)
