@@ -17,12 +17,12 @@ use Rattle.view.specs.declared.View.{View}
 use Rattle.layout.specs.declared.Chroma.{Chroma}
 use Rattle.layout.specs.declared.Chroma.the-variants.{CU, CV}
 use Rattle.layout.specs.Maps.{PY, PU, PV, Maps, place, partOf, mapsV1, mapsV2}
-use Rattle.layout.specs.Exists.{present, leftOut, carried}
+use Rattle.layout.specs.Exists.{present, leftOut, carried, gives}
 use Rattle.layout.specs.Fed.{Fed}
 use Rattle.layout.proofs.Exists.{parity, leftOut-row, leftOut-col, present-facts, carried-holds}
 use Rattle.layout.proofs.Fed.{v1-fed, v2-fed}
 use Rattle.agree_law.specs.Agrees.{Picture, inside, widened, Agrees, Same}
-use Rattle.agree_law.specs.Steps.{ViewSamples, gives, atPlace, Extends, Steps}
+use Rattle.agree_law.specs.Steps.{ViewSamples, atPlace, Extends, Steps}
 use Rattle.agree_law.proofs.Inside.{luma-inside, widened-within}
 
 -- what the auxiliary view leaves out is at an even row and an even column
@@ -44,7 +44,7 @@ module _ (m : Maps) (w : View) (z : Size) (rects : List ℕ) (p p′ q mid x : P
       let held : (j : Chroma) → carried (w .width) (w .height) (place j r c) ≡ true = λ j. carried-holds (w .width) (w .height) (place j r c) (omega arith) (omega arith) o in
       let there = present-facts (w .width) (w .height) (m .spot (place k r c)) (fed .lands (place k r c) (held k)) in
       s .auxiliary-chroma k r c hr hc
-      ∙ cond-true (widened z rects r c && gives m w r c) _ _
+      ∙ cond-true (widened z rects r c && gives m (w .width) (w .height) r c) _ _
       (both (widened z rects r c) _ e
       (both (leftOut r c && present (w .width) (w .height) (m .spot (place CU r c))) _
       (both (leftOut r c) _ o (fed .lands (place CU r c) (held CU)))

@@ -18,7 +18,7 @@ use Rattle.layout.specs.declared.Chroma.the-variants.{CU, CV}
 use Rattle.layout.specs.declared.Layout.{Layout}
 use Rattle.layout.specs.declared.Layout.the-variants.{V1, V2}
 use Rattle.layout.specs.Maps.{Part, PY, PU, PV, place, partOf, maps}
-use Rattle.layout.specs.Exists.{side, fed}
+use Rattle.layout.specs.Exists.{side, gives, fed}
 use Rattle.layout.proofs.Fed.{maps-fed}
 use Rattle.rects.specs.Rects.{taken, area}
 use Rattle.apply_main.specs.Main.{mainLuma, mainChroma, halved, chromaAfter}
@@ -27,7 +27,7 @@ use Rattle.apply_auxiliary.specs.Auxiliary.{auxiliaryIn, auxiliaryRule, auxilia
 use Rattle.split_views.specs.Fits.{Room}
 use Rattle.split.specs.Split.{Planes, mainSample, auxiliarySample, viewAfter}
 use Rattle.agree_law.specs.Agrees.{pictureOf, widened, Agrees}
-use Rattle.agree_law.specs.Steps.{ViewSamples, gives, atSpot, mainView, auxiliaryView, Steps}
+use Rattle.agree_law.specs.Steps.{ViewSamples, atSpot, mainView, auxiliaryView, Steps}
 use Rattle.agree_law.specs.Through.{threeOf, viewOf, mainViewOf, auxiliaryViewOf, withMain, withAuxiliary, throughOf, throughNumberOf, Lent}
 use Rattle.agree_law.proofs.Inside.{taken-beside}
 use Rattle.agree_law.proofs.Agree.{agrees, itself}
@@ -40,7 +40,7 @@ unfolding sample
 sample-painted w h t s xs r c hr hc fits = painted-at w h t s xs r c hr hc fits
 
 -- a view that a split has written holds what it was to hold
-written : (z : Size) (s : ViewSamples) (o : Planes) → Room (length (o .y)) (length (o .u)) (length (o .v)) (strideOf z) (rowsOf z) → (t : Part) (r c : ℕ) → r < side t (rowsOf z) → c < side t (strideOf z)
+pub written : (z : Size) (s : ViewSamples) (o : Planes) → Room (length (o .y)) (length (o .u)) (length (o .v)) (strideOf z) (rowsOf z) → (t : Part) (r c : ℕ) → r < side t (rowsOf z) → c < side t (strideOf z)
     → let v = threeOf (viewAfter 0 z s o) in
     partSample (viewOf z) (v .y) (v .u) (v .v) t r c ≡ s t r c
 written z s o long PY r c hr hc = sample-painted (strideOf z) (rowsOf z) whole (s PY) (o .y) r c hr hc (long .y-room)
@@ -63,9 +63,9 @@ main-taken z rects r c =
     taken-beside (mainChroma z (viewOf z)) (area z) (ltb r (rowsOf z) && ltb c (strideOf z)) rects r c
     (λ left top right bottom. and-assoc (area z left top right bottom r c) (ltb r (rowsOf z)) (ltb c (strideOf z)))
 
-auxiliary-taken : (t : Layout) (z : Size) (rects : List ℕ) (r c : ℕ) → taken (auxiliaryRule t z (viewOf z)) rects r c ≡ (widened z rects r c && gives (maps t (strideOf z)) (viewOf z) r c)
+auxiliary-taken : (t : Layout) (z : Size) (rects : List ℕ) (r c : ℕ) → taken (auxiliaryRule t z (viewOf z)) rects r c ≡ (widened z rects r c && gives (maps t (strideOf z)) (strideOf z) (rowsOf z) r c)
 unfolding auxiliaryIn fed
-auxiliary-taken t z rects r c = taken-beside (auxiliaryRule t z (viewOf z)) (area z) (gives (maps t (strideOf z)) (viewOf z) r c) rects r c (λ left top right bottom. refl)
+auxiliary-taken t z rects r c = taken-beside (auxiliaryRule t z (viewOf z)) (area z) (gives (maps t (strideOf z)) (strideOf z) (rowsOf z) r c) rects r c (λ left top right bottom. refl)
 
 module _ (t : Layout) (z : Size) (rects : List ℕ) (p m a q : Planes) (f : Lent z rects p m a q) where
   abbrev v : Planes
@@ -97,7 +97,7 @@ module _ (t : Layout) (z : Size) (rects : List ℕ) (p m a q : Planes) (f : Lent
 
   auxiliary-plane : (k : Chroma) (plane : List ℕ) (r c : ℕ) → r < rowsOf z → c < strideOf z → rowsOf z * strideOf z ≤ length plane
       → sample (auxiliaryAfter t k z (viewOf z) rects (x .y) (x .u) (x .v) plane) (strideOf z) r c
-      ≡ cond (widened z rects r c && gives (maps t (strideOf z)) (viewOf z) r c) (atSpot auxiliary (maps t (strideOf z) .spot (place k r c))) (sample plane (strideOf z) r c)
+      ≡ cond (widened z rects r c && gives (maps t (strideOf z)) (strideOf z) (rowsOf z) r c) (atSpot auxiliary (maps t (strideOf z) .spot (place k r c))) (sample plane (strideOf z) r c)
   unfolding auxiliarySource
   auxiliary-plane k plane r c hr hc fits =
       sample-painted (strideOf z) (rowsOf z) (taken (auxiliaryRule t z (viewOf z)) rects) (auxiliarySource t k (viewOf z) (x .y) (x .u) (x .v)) plane r c hr hc fits
@@ -110,7 +110,7 @@ module _ (t : Layout) (z : Size) (rects : List ℕ) (p m a q : Planes) (f : Lent
 
   auxiliary-chroma : (k : Chroma) (r c : ℕ) → r < rowsOf z → c < strideOf z
       → pictureOf z after .chroma k r c
-      ≡ cond (widened z rects r c && gives (maps t (strideOf z)) (viewOf z) r c) (atSpot auxiliary (maps t (strideOf z) .spot (place k r c))) (pictureOf z mid .chroma k r c)
+      ≡ cond (widened z rects r c && gives (maps t (strideOf z)) (strideOf z) (rowsOf z) r c) (atSpot auxiliary (maps t (strideOf z) .spot (place k r c))) (pictureOf z mid .chroma k r c)
   auxiliary-chroma CU r c hr hc = auxiliary-plane CU (mid .u) r c hr hc (rw length-painted (f .earlier .u-fits))
   auxiliary-chroma CV r c hr hc = auxiliary-plane CV (mid .v) r c hr hc (rw length-painted (f .earlier .v-fits))
 

@@ -5,3 +5,4 @@ pub mod Number
 pub mod Calls
 pub mod Ends
 pub mod Unique
+pub mod Alike

@@ -2,13 +2,12 @@
 -- of these steps (`agrees`).
 --
 --   ViewSamples           what the planes of a view hold, by row and column
---   gives m w r c         the auxiliary view gives U and V at this row and column: layout's `fed`, of any maps
 --   Extends z p p′        p′ holds what p does in the padded planes: p′ may be p itself, or p as if its planes went on past the stride
 --   Steps m w z rects p q mid x main auxiliary      the views main and auxiliary are the split of p by the maps m, mid is the earlier picture q
 --                         with main applied over the list, and x is mid with auxiliary applied
-use Prim.Native.Nat.{ℕ, _*_, _/_, _<_}
+use Prim.Native.Nat.{ℕ, _/_, _<_}
 use mathlib.Core.Path.{_≡_}
-use mathlib.Core.Bool.{Bool, cond, _&&_}
+use mathlib.Core.Bool.{cond, _&&_}
 use mathlib.Core.List.{List}
 use lib.Dec.{ltb}
 use Rattle.picture.specs.declared.Size.{Size}
@@ -17,19 +16,13 @@ use Rattle.view.specs.declared.View.{View}
 use Rattle.layout.specs.declared.Chroma.{Chroma}
 use Rattle.layout.specs.declared.Chroma.the-variants.{CU, CV}
 use Rattle.layout.specs.Maps.{Part, PY, PU, PV, Place, Spot, Maps, place, spot, fromMain, partOf}
-use Rattle.layout.specs.Exists.{side, present, leftOut}
+use Rattle.layout.specs.Exists.{side, gives}
 use Rattle.rects.specs.Rects.{taken}
 use Rattle.apply_main.specs.Main.{mainLuma}
 use Rattle.agree_law.specs.Agrees.{Picture, widened}
 
 abbrev pub ViewSamples : Type 0
 ViewSamples = Part → ℕ → ℕ → ℕ
-
-abbrev pub gives : Maps → View → ℕ → ℕ → Bool
-gives m w r c =
-    leftOut r c
-    && present (w .width) (w .height) (m .spot (place CU r c))
-    && present (w .width) (w .height) (m .spot (place CV r c))
 
 -- the sample at a place, or at a spot
 abbrev pub atPlace : Picture → Place → ℕ
@@ -59,4 +52,4 @@ pub record Steps (m : Maps) (w : View) (z : Size) (rects : List ℕ) (p q mid x 
       → mid .chroma k r c ≡ cond (widened z rects r c && (ltb r (w .height) && ltb c (w .width))) (main (partOf k) (r / 2) (c / 2)) (q .chroma k r c)
   pub auxiliary-luma : (r c : ℕ) → r < rowsOf z → c < strideOf z → x .luma r c ≡ mid .luma r c
   pub auxiliary-chroma : (k : Chroma) (r c : ℕ) → r < rowsOf z → c < strideOf z
-      → x .chroma k r c ≡ cond (widened z rects r c && gives m w r c) (atSpot auxiliary (m .spot (place k r c))) (mid .chroma k r c)
+      → x .chroma k r c ≡ cond (widened z rects r c && gives m (w .width) (w .height) r c) (atSpot auxiliary (m .spot (place k r c))) (mid .chroma k r c)

@@ -8,6 +8,10 @@
 --   withMain z rects v q     the picture q, once the main view v is applied over the list
 --   withAuxiliary t z rects v q    the picture q, once the auxiliary view v is applied over the list
 --   throughOf t z rects p m a q      the earlier picture q after the three steps
+--   laidOver z rects p q     the picture p laid over the earlier picture q, with no view between: p's luma where the main view's call takes
+--                            luma, p's chroma in each widened rectangle, every other byte of q's buffers as it was. In either layout the
+--                            three steps leave just this (`through-laid`)
+--   laidBy rule z rects s o  of one plane: the samples of s that the rule takes over the list, laid over o
 --   firstOf n k              n where it is a refusal, else k
 --   applyNumberOn z rects v q        the number of an apply call of the view v, of a split's size, onto the picture q
 --   throughNumberOf t z rects p m a q      the first number that a step would give, 0 where none would refuse
@@ -25,13 +29,16 @@ use lib.Dec.{eqb}
 use lib.ListN.{length}
 use Rattle.lent.specs.declared.Answer.{Answer}
 use Rattle.lent.specs.Outcome.{Outcome, answerOf, lentAfter}
+use Rattle.lent.specs.Paint.{painted}
 use Rattle.lent.specs.Refusal.{refusal}
+use Rattle.lent.specs.Samples.{sample}
 use Rattle.picture.specs.declared.Size.{Size}
 use Rattle.picture.specs.Sizes.{strideOf, rowsOf, planesShort, PlanesFit}
 use Rattle.view.specs.declared.View.{View}
 use Rattle.layout.specs.declared.Layout.{Layout}
+use Rattle.rects.specs.Rects.{Rule, taken, area}
 use Rattle.rects.specs.Number.{notFours, lentNumberOf}
-use Rattle.apply_main.specs.Main.{mainBuffersOf}
+use Rattle.apply_main.specs.Main.{mainLuma, mainBuffersOf}
 use Rattle.apply_auxiliary.specs.Auxiliary.{auxiliaryBuffersOf}
 use Rattle.split.specs.declared.number.PlaneLengths.{PlaneLengths}
 use Rattle.split.specs.declared.number.Views.{Views}
@@ -70,6 +77,13 @@ withAuxiliary t z rects v q = threeOf (auxiliaryBuffersOf 0 t z (viewOf z) rects
 
 unfoldable pub throughOf : Layout → Size → List ℕ → Planes → Planes → Planes → Planes → Planes
 throughOf t z rects p m a q = withAuxiliary t z rects (auxiliaryViewOf t z p a) (withMain z rects (mainViewOf z p m) q)
+
+abbrev pub laidBy : Rule → Size → List ℕ → List ℕ → List ℕ → List ℕ
+laidBy rule z rects s o = painted (strideOf z) (rowsOf z) (taken rule rects) (sample s (strideOf z)) o
+
+abbrev pub laidOver : Size → List ℕ → Planes → Planes → Planes
+laidOver z rects p q =
+    planes (laidBy (mainLuma z (viewOf z)) z rects (p .y) (q .y)) (laidBy (area z) z rects (p .u) (q .u)) (laidBy (area z) z rects (p .v) (q .v))
 
 abbrev pub firstOf : ℕ → ℕ → ℕ
 firstOf n k = cond (eqb n 0) k n

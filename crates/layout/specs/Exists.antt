@@ -4,12 +4,13 @@
 --   present vw vh s     the spot s exists in a view of vw by vh
 --   leftOut r c         the main view, which has the even rows' even columns, leaves this sample to the auxiliary view
 --   carried w h l       the place l is in a picture of w by h, and the auxiliary view carries it
---   fed t vw vh r c     the auxiliary view of vw by vh, of the layout t, gives U and V at this row and column
+--   gives m vw vh r c   an auxiliary view of vw by vh, whose maps are m, gives U and V at this row and column
+--   fed t vw vh r c     the same, with the maps of the layout t
 use Prim.Native.Nat.{ℕ, _*_, _-_, _/_, _%_}
 use mathlib.Core.Bool.{Bool, _&&_, _||_}
 use lib.Dec.{ltb, eqb}
 use Rattle.lent.specs.Sizes.{halfUp}
-use Rattle.layout.specs.Maps.{Part, PY, PU, PV, Place, Spot, place, maps, v2WidthOf}
+use Rattle.layout.specs.Maps.{Part, PY, PU, PV, Place, Spot, Maps, place, maps, v2WidthOf}
 use Rattle.layout.specs.declared.Chroma.the-variants.{CU, CV}
 use Rattle.layout.specs.declared.Layout.{Layout}
 
@@ -28,8 +29,11 @@ abbrev pub carried : ℕ → ℕ → Place → Bool
 carried w h l = ltb (l .row) h && ltb (l .col) w && leftOut (l .row) (l .col)
 
 -- "A pair is taken only if both samples exist"; V1: "only if both rows exist", "if these exist"
+abbrev pub gives : Maps → ℕ → ℕ → ℕ → ℕ → Bool
+gives m vw vh r c = leftOut r c && present vw vh (m .spot (place CU r c)) && present vw vh (m .spot (place CV r c))
+
 unfoldable pub fed : Layout → ℕ → ℕ → ℕ → ℕ → Bool
-fed t vw vh r c = leftOut r c && present vw vh (maps t vw .spot (place CU r c)) && present vw vh (maps t vw .spot (place CV r c))
+fed t vw vh = gives (maps t vw) vw vh
 
 -- V2: both samples of an odd column exist exactly below this column, those of an even column of an odd row exactly below that one
 abbrev pub v2OddsBelowOf : ℕ → ℕ

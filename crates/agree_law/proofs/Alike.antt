@@ -1,0 +1,91 @@
+-- One earlier picture, lent to both layouts, is left the same to the last byte, padding and what lies past the planes included: each walk
+-- leaves the picture laid over the earlier one, whatever the layout and whatever the views' buffers held. Luma comes from the main view
+-- alone, which holds the picture's own; demand 3 says each sample of the padded chroma planes; no call changes a byte past them.
+-- Assumes nothing.
+use Prim.Native.Nat.{ℕ, _<_}
+use mathlib.Core.Path.{_≡_, refl, sym, ap, _∙_}
+use mathlib.Core.Bool.{Bool, true, false, cond}
+use mathlib.Core.List.{List, _++_}
+use lib.ListN.{drop}
+use Rattle.lent.specs.declared.Answer.{Answer}
+use Rattle.lent.specs.Paint.{painted}
+use Rattle.lent.specs.Samples.{sample}
+use Rattle.lent.proofs.Bools.{cond-true, cond-false}
+use Rattle.lent.proofs.Painted.{length-painted, painted-past, painted-is, painted-ext}
+use Rattle.picture.specs.declared.Size.{Size}
+use Rattle.picture.specs.Sizes.{strideOf, rowsOf}
+use Rattle.layout.specs.declared.Chroma.{Chroma}
+use Rattle.layout.specs.declared.Chroma.the-variants.{CU, CV}
+use Rattle.layout.specs.declared.Layout.{Layout}
+use Rattle.layout.specs.declared.Layout.the-variants.{V1, V2}
+use Rattle.layout.specs.Maps.{PY}
+use Rattle.split.specs.Split.{Planes, planes, mainSample}
+use Rattle.agree_law.specs.Agrees.{Picture, widened, Agrees}
+use Rattle.agree_law.specs.Through.{buffersIn, threeOf, mainViewOf, auxiliaryViewOf, throughOf, laidOver, throughNumberOf, Lent}
+use Rattle.agree_law.specs.Both.{bothNumberOf, bothBuffersOf, BothEnds}
+use Rattle.agree_law.proofs.Number.{first-zero, through-0-exactly}
+use Rattle.agree_law.proofs.Calls.{written, lent-agrees}
+
+-- a plane that two calls painted is fixed by what its samples are afterwards
+painted-twice : (w h : ℕ) (t₁ t₂ t : ℕ → ℕ → Bool) (s₁ s₂ s : ℕ → ℕ → ℕ) (xs : List ℕ)
+    → ((r c : ℕ) → r < h → c < w → sample (painted w h t₂ s₂ (painted w h t₁ s₁ xs)) w r c ≡ cond (t r c) (s r c) (sample xs w r c))
+    → painted w h t₂ s₂ (painted w h t₁ s₁ xs) ≡ painted w h t s xs
+unfolding sample
+painted-twice w h t₁ t₂ t s₁ s₂ s xs is =
+    painted-is w h t s xs _ (length-painted w h t₂ s₂ (painted w h t₁ s₁ xs) ∙ length-painted w h t₁ s₁ xs) is
+    (λ k ge hk. painted-past w h t₂ s₂ (painted w h t₁ s₁ xs) k ge (rw length-painted hk) ∙ painted-past w h t₁ s₁ xs k ge hk)
+
+-- what demand 3 says of a chroma sample of the padded planes, in one equation
+module _ (z : Size) (rects : List ℕ) (p q x : Picture) (a : Agrees z rects p q x) where
+  agreed-chroma : (k : Chroma) (r c : ℕ) → r < rowsOf z → c < strideOf z → x .chroma k r c ≡ cond (widened z rects r c) (p .chroma k r c) (q .chroma k r c)
+  agreed-chroma k r c hr hc = go (widened z rects r c) refl
+    where
+      go : (t : Bool) → widened z rects r c ≡ t → x .chroma k r c ≡ cond (widened z rects r c) (p .chroma k r c) (q .chroma k r c)
+      go true e = a .chroma-inside k r c e ∙ sym (cond-true (widened z rects r c) _ _ e)
+      go false e = a .chroma-elsewhere k r c hr hc e ∙ sym (cond-false (widened z rects r c) _ _ e)
+
+module _ (t : Layout) (z : Size) (rects : List ℕ) (p m a q : Planes) (f : Lent z rects p m a q) where
+  luma-laid : throughOf t z rects p m a q .y ≡ laidOver z rects p q .y
+  unfolding throughOf
+  luma-laid = painted-ext _ _ _ _ _ _ (q .y) (λ r c hr hc. refl) (λ r c hr hc e. written z (mainSample (strideOf z) p) m (f .main) PY r c hr hc)
+
+  u-laid : throughOf t z rects p m a q .u ≡ laidOver z rects p q .u
+  unfolding throughOf
+  u-laid = painted-twice _ _ _ _ _ _ _ _ (q .u) (agreed-chroma z rects _ _ _ (lent-agrees t z rects p m a q f) CU)
+
+  v-laid : throughOf t z rects p m a q .v ≡ laidOver z rects p q .v
+  unfolding throughOf
+  v-laid = painted-twice _ _ _ _ _ _ _ _ (q .v) (agreed-chroma z rects _ _ _ (lent-agrees t z rects p m a q f) CV)
+
+-- a walk that answers 0 leaves the picture laid over the earlier one
+pub through-laid : (t : Layout) (z : Size) (rects : List ℕ) (p m a q : Planes) → throughNumberOf t z rects p m a q ≡ 0 → throughOf t z rects p m a q ≡ laidOver z rects p q
+through-laid t z rects p m a q none =
+    let f = through-0-exactly z rects p m a q t .0 none in
+    λ i. planes (luma-laid t z rects p m a q f i) (u-laid t z rects p m a q f i) (v-laid t z rects p m a q f i)
+
+module _ (z : Size) (rects : List ℕ) (p m a q q′ : Planes) (r : Answer) (m′ a′ x x′ : Planes) (both : BothEnds z rects p m a q q′ r m′ a′ x x′) (done : r .number ≡ 0) where
+  none : bothNumberOf z rects p m a q q′ ≡ 0
+  none = sym (ap (λ (n : Answer). n .number) (both .ends .answer)) ∙ done
+
+  zeros : (throughNumberOf V1 z rects p m a q ≡ 0) × (throughNumberOf V2 z rects p (mainViewOf z p m) (auxiliaryViewOf V1 z p a) q′ ≡ 0)
+  unfolding bothNumberOf
+  zeros = first-zero (throughNumberOf V1 z rects p m a q) _ none
+
+  left : (buffersIn m′ ++ (buffersIn a′ ++ (buffersIn x ++ buffersIn x′))) ≡ bothBuffersOf 0 z rects p m a q q′
+  left = both .ends .buffers ∙ ap (λ (n : ℕ). bothBuffersOf n z rects p m a q q′) none
+
+  -- two walks that answer 0 leave the picture laid over each of the earlier ones
+  pub both-laid : (x ≡ laidOver z rects p q) × (x′ ≡ laidOver z rects p q′)
+  unfolding bothBuffersOf
+  both-laid = (
+    ap (λ (l : List (List ℕ)). threeOf (drop 6 l)) left ∙ through-laid V1 z rects p m a q (zeros .0),
+    ap (λ (l : List (List ℕ)). threeOf (drop 9 l)) left ∙ through-laid V2 z rects p (mainViewOf z p m) (auxiliaryViewOf V1 z p a) q′ (zeros .1),
+  )
+
+-- one earlier picture, lent twice: the two layouts leave the same three buffers, to the last byte
+pub both-alike : (z : Size) (rects : List ℕ) (p m a q : Planes) (r : Answer) (m′ a′ x x′ : Planes) → BothEnds z rects p m a q q r m′ a′ x x′ → r .number ≡ 0
+    → (x .y ≡ x′ .y) × (x .u ≡ x′ .u) × (x .v ≡ x′ .v)
+both-alike z rects p m a q r m′ a′ x x′ both done =
+    let laid = both-laid z rects p m a q q r m′ a′ x x′ both done in
+    let same : x ≡ x′ = laid .0 ∙ sym (laid .1) in
+    (λ i. same i .y, λ i. same i .u, λ i. same i .v)
