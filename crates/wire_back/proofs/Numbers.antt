@@ -92,17 +92,20 @@ u16-part n at s i h =
     byte : (k : ℕ) → k < n → getD (take n (drop at s)) k 0 ≡ getD s (at + k) 0
     byte k h = getD-take n (drop at s) k 0 h ∙ getD-drop at s k 0
 
--- how many bytes a stream's parts have, and how many numbers its rectangles
 module _ (s : List ℕ) (w : Which) where
+  -- eight bytes for each rectangle
   rects-long : length (partsOf s w .rects) ≡ 8 * placesOf s w .count
   rects-long = length-take-le (8 * placesOf s w .count) (drop (placesOf s w .rects) s) (let d = length-drop (placesOf s w .rects) s in omega (arith, inside s w))
 
+  -- two bytes for each pair
   pub pairs-long : length (partsOf s w .pairs) ≡ 2 * placesOf s w .count
   pairs-long = length-take-le (2 * placesOf s w .count) (drop (placesOf s w .pairs) s) (let d = length-drop (placesOf s w .pairs) s in omega (arith, inside s w))
 
+  -- the H.264 bytes are as many as was answered
   pub h264-long : length (partsOf s w .h264) ≡ placesOf s w .length
   h264-long = length-take-le (placesOf s w .length) (drop (placesOf s w .«data») s) (let d = length-drop (placesOf s w .«data») s in omega (arith, inside s w))
 
+  -- four numbers for each rectangle
   pub rects-many : length (numbersIn (partsOf s w .rects)) ≡ 4 * placesOf s w .count
   rects-many = numbers-long (4 * placesOf s w .count) (partsOf s w .rects) (omega (arith, rects-long))
 
