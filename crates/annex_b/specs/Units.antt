@@ -6,7 +6,9 @@
 --   Values              the number, and the values that a step answers; aUnit and noUnit are the two kinds there are
 --   valuesOf            what they are for each case of a step
 --   stepOf s at         what a step from a position answers, in these values
---   unitsFrom s at      the bytes of each unit from a position on, until the stop
+--   unitsFrom s at      the bytes of each unit from a position on, until the stop. It recurses by a bound on their number, which two laws of
+--                       proofs/UnitLaws.antt take away: where a whole unit stands they are that unit and the units from its end on
+--                       (`units-more`), and where none stands there are none (`units-none`)
 use Prim.Native.Nat.{ℕ, zero, suc, _+_, _*_, _-_}
 use mathlib.Core.Bool.{Bool, true, false, cond, _&&_}
 use mathlib.Core.List.{List, [], _∷_}

@@ -1,5 +1,6 @@
-// The calls that no exported function reaches, run: rows and parts as the caller's own bytes, a payload written and read, and both layouts
-// onto two earlier pictures. Every sample and every byte of a part is a letter, so a part is printed as it stands, between brackets.
+// The calls that no exported function reaches, run: rows and parts as the caller's own bytes, a payload written and read and one read and
+// written, and both layouts onto two earlier pictures. Every sample and every byte of a part is a letter, so a part is printed as it stands,
+// between brackets.
 // The file `stdout` beside src/ was written by hand from the rules (docs/RULES.md).
 use libc::STDOUT_FILENO;
 use picture::Size;
@@ -70,6 +71,27 @@ fn write_read(kind: u32, out: &mut [u8]) {
     text(b", ");
     io::print_decimal(STDOUT_FILENO, read.chroma.length as u64);
     text(b" bytes\n");
+}
+
+fn wide(n: u16) -> u32 {
+    n as u32
+}
+
+// A payload is read and written into out, by way of a list of one rectangle for each stream: its number, the bytes written, and the first
+// number of each list.
+fn read_write(payload: &[u8], out: &mut [u8]) {
+    let mut luma = [0u16; 4];
+    let mut chroma = [0u16; 4];
+    let answer = wire_back::read_write(payload, &mut luma, &mut chroma, out);
+    text(b"read and written: ");
+    number(answer.number);
+    text(b", ");
+    io::print_decimal(STDOUT_FILENO, answer.count as u64);
+    text(b" bytes, lists ");
+    number(wide(luma[0]));
+    text(b" and ");
+    number(wide(chroma[0]));
+    text(b"\n");
 }
 
 // The first three rows of a plane of 16 columns.
@@ -148,6 +170,21 @@ fn main() {
     streams(&out[0..32]);
     write_read(3, &mut out);
     write_read(0, &mut out[0..31]);
+    let payload = b"\x12\x00\x00\x00\x01\x00\x00\x00LLTTRRBBQYluma\x01\x00\x00\x00llttrrbbqychroma";
+    let mut again = [0u8; 50];
+    read_write(payload, &mut again);
+    streams(&again[0..42]);
+    read_write(
+        b"\x00\x00\x00\x80\x01\x00\x00\x00llttrrbbqychroma",
+        &mut again,
+    );
+    streams(&again[0..24]);
+    read_write(
+        b"\x00\x00\x00\x40\x02\x00\x00\x00LLTTRRBBLLTTRRBBQYQY",
+        &mut again,
+    );
+    read_write(b"abc\xc0", &mut again);
+    read_write(payload, &mut again[0..41]);
     both(&[3, 0, 4, 2]);
     both(&[5, 0, 5, 4]);
     both(&[3, 0, 4, 2, 9]);

@@ -21,6 +21,11 @@ use Rattle.wire_back.specs.Back.{numbersIn, AllBelow}
 
 -- ---- bytes
 
+-- a list is of bytes where each place of it holds one
+pub bytes-at : (s : List ℕ) → ((i : ℕ) → getD s i 0 < 256) → AllBelow 256 s
+bytes-at [] h = tt
+bytes-at (b ∷ s) h = (h 0, bytes-at s (λ i. h (suc i)))
+
 pub bytes-take : (n : ℕ) (s : List ℕ) → AllBelow 256 s → AllBelow 256 (take n s)
 bytes-take zero s h = tt
 bytes-take (suc n) [] h = tt
@@ -87,6 +92,23 @@ u16-part n at s i h =
     byte : (k : ℕ) → k < n → getD (take n (drop at s)) k 0 ≡ getD s (at + k) 0
     byte k h = getD-take n (drop at s) k 0 h ∙ getD-drop at s k 0
 
+module _ (s : List ℕ) (w : Which) where
+  -- eight bytes for each rectangle
+  rects-long : length (partsOf s w .rects) ≡ 8 * placesOf s w .count
+  rects-long = length-take-le (8 * placesOf s w .count) (drop (placesOf s w .rects) s) (let d = length-drop (placesOf s w .rects) s in omega (arith, inside s w))
+
+  -- two bytes for each pair
+  pub pairs-long : length (partsOf s w .pairs) ≡ 2 * placesOf s w .count
+  pairs-long = length-take-le (2 * placesOf s w .count) (drop (placesOf s w .pairs) s) (let d = length-drop (placesOf s w .pairs) s in omega (arith, inside s w))
+
+  -- the H.264 bytes are as many as was answered
+  pub h264-long : length (partsOf s w .h264) ≡ placesOf s w .length
+  h264-long = length-take-le (placesOf s w .length) (drop (placesOf s w .«data») s) (let d = length-drop (placesOf s w .«data») s in omega (arith, inside s w))
+
+  -- four numbers for each rectangle
+  pub rects-many : length (numbersIn (partsOf s w .rects)) ≡ 4 * placesOf s w .count
+  rects-many = numbers-long (4 * placesOf s w .count) (partsOf s w .rects) (omega (arith, rects-long))
+
 pub copied : (s : List ℕ) (w : Which) (out : List ℕ) → 4 * placesOf s w .count ≤ length out
     → numbersOf s w out ≡ numbersIn (partsOf s w .rects) ++ drop (4 * placesOf s w .count) out
 unfolding numbersOf
@@ -106,10 +128,10 @@ copied s w out room =
     ns = numbersIn bs
 
     long : length bs ≡ 8 * x .count
-    long = length-take-le (8 * x .count) (drop (x .rects) s) (let d = length-drop (x .rects) s in omega (arith, inside s w))
+    long = rects-long s w
 
     many : length ns ≡ n
-    many = numbers-long n bs (omega (arith, long))
+    many = rects-many s w
 
     go : (b : Bool) (k : ℕ) → k < length out → ltb k n ≡ b → getD (ns ++ drop n out) k 0 ≡ cond b (u16At s (x .rects + 2 * k)) (getD out k 0)
     go true k h e =

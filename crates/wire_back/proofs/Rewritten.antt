@@ -3,7 +3,7 @@
 use Prim.Native.Nat.{ℕ, _+_, _*_, _/_, _-_, _^_, _≤_, _<_}
 use native.Mathlib.Omega.{arith}
 use mathlib.Core.Path.{_≡_, refl, sym, ap, subst, _∙_}
-use mathlib.Core.Bool.{Bool, true, false, cond, _&&_, false≢true}
+use mathlib.Core.Bool.{Bool, true, false, cond, _&&_, _||_, false≢true}
 use mathlib.Core.List.{List, [], _++_}
 use lib.ListN.{length, take, drop, take-append-drop}
 use lib.Seq.{length-take-le}
@@ -22,7 +22,8 @@ use Rattle.wire_read.specs.declared.parts.Which.the-variants.{Luma, Chroma}
 use Rattle.wire_read.specs.Parts.{placesOf, partsOf}
 use Rattle.wire_read.proofs.Covered.{both-parts, luma-parts, chroma-parts, covered}
 use Rattle.wire_write.specs.Stream.{partsFrom}
-use Rattle.wire_write.specs.Number.{uneven, countLarge}
+use Rattle.wire_write.specs.declared.number.StreamSizes.{StreamSizes}
+use Rattle.wire_write.specs.Number.{uneven, countLarge, listsWrong}
 use Rattle.wire_write.proofs.Exactly.{even-exactly}
 use Rattle.wire_write.proofs.NumberLaws.{write-0-exactly}
 use Rattle.wire_write.specs.Writing.{sizesGiven, partsGiven, sizeFor, payloadOf, givenNumberOf}
@@ -67,6 +68,11 @@ parts-sound s small zero-number = go s (readOf s) (read-format s small zero-numb
 
 -- ---- the payload
 
+-- what does not hold of a stream that is carried
+carried : (is x : Bool) → (is ≡ true → x ≡ false) → (is && x) ≡ false
+carried true x e = e refl
+carried false x e = refl
+
 module _ (s : List ℕ) (h : AllBelow 256 s) (zero-number : readNumberOf s ≡ 0) where
   good : (4 ≤ length s) × (kindOf s ≡ 3 → ⊥)
   good = let g = read-0-exactly s .0 zero-number .0 in (g .four, g .known)
@@ -95,6 +101,24 @@ module _ (s : List ℕ) (h : AllBelow 256 s) (zero-number : readNumberOf s ≡ 0
     again-small : countLarge (sizesGiven (givenIn s w)) ≡ false
     again-small = lt-leb (2 ^ 32) (length (givenIn s w .rects) / 4) (let e = numbers-count (partsOf s w) f count-bytes in let b = four-bytes (partsOf s w .count) (f .four) count-bytes .1 in omega arith)
 
+  abbrev luma-sizes : StreamSizes
+  luma-sizes = sizesGiven (givenIn s Luma)
+
+  abbrev chroma-sizes : StreamSizes
+  chroma-sizes = sizesGiven (givenIn s Chroma)
+
+  -- what was read is never refused for its kind
+  pub known-kind : kindOf s ≤ 2
+  known-kind = let b = head .1 in let k = good .1 in omega arith
+
+  -- nor for its lists: there are four numbers and one pair for each rectangle
+  pub even-lists : listsWrong (kindOf s) luma-sizes chroma-sizes ≡ false
+  even-lists = nor _ _ .1 (carried (carriesLuma (kindOf s)) _ (λ e. again-even Luma (sound .0 e)), carried (carriesChroma (kindOf s)) _ (λ e. again-even Chroma (sound .1 e)))
+
+  -- nor for its counts, which came from 32 bits
+  pub small-counts : ((carriesLuma (kindOf s) && countLarge luma-sizes) || (carriesChroma (kindOf s) && countLarge chroma-sizes)) ≡ false
+  small-counts = nor _ _ .1 (carried (carriesLuma (kindOf s)) _ (λ e. again-small Luma (sound .0 e)), carried (carriesChroma (kindOf s)) _ (λ e. again-small Chroma (sound .1 e)))
+
   module _ (t : Standard s) where
     first-number : u32Bytes (infoOf (kindOf s) (sizeFor (kindOf s) (givenIn s Luma))) ≡ take 4 s
     first-number = ap (λ (x : ℕ). u32Bytes (infoOf (kindOf s) x)) (sym (t .size-is)) ∙ ap u32Bytes (info-parts (u32At s 0) (head .1)) ∙ head .0
@@ -111,15 +135,8 @@ module _ (s : List ℕ) (h : AllBelow 256 s) (zero-number : readNumberOf s ≡ 0
     pub rewritten-accepted : (n : ℕ) → length s ≤ n → givenNumberOf (kindOf s) (givenIn s Luma) (givenIn s Chroma) n ≡ 0
     rewritten-accepted n room =
         write-0-exactly _ _ _ n .1 (record {
-          known = let b = head .1 in let k = good .1 in omega arith;
-          even = nor _ _ .1 (carried (carriesLuma (kindOf s)) _ (λ e. again-even Luma (sound .0 e)), carried (carriesChroma (kindOf s)) _ (λ e. again-even Chroma (sound .1 e)));
-          short = nor _ _ .1 (
-            lt-leb _ _ (t .short),
-            nor _ _ .1 (carried (carriesLuma (kindOf s)) _ (λ e. again-small Luma (sound .0 e)), carried (carriesChroma (kindOf s)) _ (λ e. again-small Chroma (sound .1 e))),
-          );
+          known = known-kind;
+          even = even-lists;
+          short = nor _ _ .1 (lt-leb _ _ (t .short), small-counts);
           room = let e = payload-long (kindOf s) (givenIn s Luma) (givenIn s Chroma) in let f = ap length rewritten in omega arith;
         })
-      where
-        carried : (is x : Bool) → (is ≡ true → x ≡ false) → (is && x) ≡ false
-        carried true x e = e refl
-        carried false x e = refl
