@@ -2,14 +2,14 @@
 --   z ÷ n          z divided by n, rounded down, also below zero (`floor` of proofs/Floor.antt says so of n = 256)
 --   clamp z        z, or the nearer of 0 and 255 where it is outside them
 --   distance a b   |a - b|
-use Prim.Native.Nat.{ℕ, _/_, min}
+use Prim.Native.Nat.{ℕ, min}
 use lib.IntN.{ℤ, pos, negsuc, natAbs, _-ℤ_}
+use lib.Signed.{shrZ}
 
--- "Division by 256 is floor, also below zero": -(a + 1) / n is -(a / n + 1)
+-- "Division by 256 is floor, also below zero": the library's division that rounds down
 infixl 7 _÷_
 abbrev pub _÷_ : ℤ → ℕ → ℤ
-pos a ÷ n = pos (a / n)
-negsuc a ÷ n = negsuc (a / n)
+z ÷ n = shrZ z n
 
 -- "clamped to 0..255"
 abbrev pub clamp : ℤ → ℕ

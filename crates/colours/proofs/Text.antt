@@ -1,8 +1,9 @@
 -- Text that is put piece by piece: `put-one` is one byte, and `put-more` joins two pieces. Then a byte
--- in decimal, and the invariant of the loop over triples: what is put and the text of the rest are the whole text.
+-- in decimal, and the invariant of the loop over triples: what is put and the text of the rest are the whole text. Last, the input
+-- may be cut after a whole number of triples (`text-append`).
 -- Assumes nothing.
 use mathlib.Core.List.{List, [], _∷_, _++_, append-assoc, append-nil}
-use mathlib.Core.Path.{_≡_, refl, _∙_}
+use mathlib.Core.Path.{_≡_, refl, sym, ap, _∙_}
 use Prim.Native.Nat.{ℕ, zero, suc, _+_, _*_, _/_, _%_, _≤_, _<_}
 use native.Mathlib.Numerals.{add-one}
 use native.Mathlib.Omega.{arith}
@@ -83,3 +84,11 @@ module _ {rgb xs ys : List ℕ} {at end i : ℕ} (s : SoFar rgb xs at i) where
 
 pub text-end : {rgb xs : List ℕ} {at i : ℕ} → SoFar rgb xs at i → i ≡ length rgb → take at xs ≡ textOf rgb
 text-end {rgb} {xs} {at} {i} s h = rw (none rgb i h, append-nil) at (s .text)
+
+-- the text of two pieces one after the other is the first's text and then the second's, where the first is a whole number of triples
+pub text-append : (xs ys : List ℕ) → length xs % 3 ≡ 0 → textOf (xs ++ ys) ≡ textOf xs ++ textOf ys
+text-append [] ys h = refl
+text-append (r ∷ []) ys h = absurd (omega arith)
+text-append (r ∷ g ∷ []) ys h = absurd (omega arith)
+text-append (r ∷ g ∷ b ∷ rest) ys h =
+    ap (λ (t : List ℕ). lineOf r g b ++ t) (text-append rest ys (omega arith)) ∙ sym (append-assoc (lineOf r g b) (textOf rest) (textOf ys))

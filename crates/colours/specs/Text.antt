@@ -4,6 +4,7 @@
 --   lineOf r g b     the line of a triple: Y U V, then R G B after the reverse
 --   shortOf n        the last line where n bytes are left over
 --   textOf rgb       all lines of the input rgb
+--   CutAfter xs      the input may be cut after xs: whatever follows, the text of all is that of xs and then that of the rest
 --   Put              what a function leaves that puts text into a lent buffer
 use mathlib.Core.Bool.{cond}
 use mathlib.Core.List.{List, [], _∷_, _++_}
@@ -40,6 +41,10 @@ textOf [] = []
 textOf (_ ∷ []) = shortOf 1
 textOf (_ ∷ _ ∷ []) = shortOf 2
 textOf (r ∷ g ∷ b ∷ rest) = lineOf r g b ++ textOf rest
+
+-- so a piece of the input that CutAfter holds of is written by itself
+abbrev pub CutAfter : List ℕ → Type 0
+CutAfter xs = (rest : List ℕ) → textOf (xs ++ rest) ≡ textOf xs ++ textOf rest
 
 -- text stands at `at` and ends at `end`, what is in front of it is as before, and so is the buffer's length
 pub record Put (before after : List ℕ) (at end : ℕ) (text : List ℕ) : Type 0 where

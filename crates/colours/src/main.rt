@@ -1,16 +1,17 @@
 // Reads RGB triples from standard input and writes one line for each: Y U V, then R G B after the reverse, in decimal with
 // single spaces. A remainder of n = 1 or 2 bytes gives a last line `short n`.
-// Promised: the text that is made of a bufferful is exactly the rule's (`textOf` of specs/Text.antt). A bufferful is a
-// whole number of triples unless the input ends in it, so the input may arrive in pieces of any size. A write that fails ends
-// the program.
+// Promised: the text that is made of a bufferful is exactly the rule's (`textOf` of specs/Text.antt), and where a bufferful is full, so
+// that the program goes on, the input may be cut after it (`CutAfter`): it is a whole number of triples. So the input may arrive in
+// pieces of any size. A write that fails ends the program.
 use libc::STDIN_FILENO;
 use libc::STDOUT_FILENO;
 ghost use mathlib.Core.Path.{_≡_};
+ghost use mathlib.Core.Bool.{true};
 ghost use mathlib.Core.List.{[], _∷_};
 ghost use Prim.Native.Nat.{_+_, _*_, _≤_, _<_};
 ghost use lib.ListN.{length, take};
 ghost use Rattle.io.specs.Counts.{Counts};
-ghost use Rattle.colours.specs.Text.{decimalOf, numberOf, lineOf, shortOf, textOf, Put};
+ghost use Rattle.colours.specs.Text.{decimalOf, numberOf, lineOf, shortOf, textOf, CutAfter, Put};
 
 // Each function below puts text into `out` at `at` and answers the place after it.
 fn put(out: &mut [u8], at: usize, b: u8) -> usize
@@ -96,7 +97,15 @@ fn put_text(out: &mut [u8], rgb: &[u8]) -> usize
     put_short(out, at, left as u8)
 }
 
-// One bufferful: 1,024 triples, or fewer bytes where the input ends. Answers whether there may be more.
+// Whether n bytes fill the buffer, so that there may be more: 1,024 triples, and what follows has lines of its own.
+fn full(rgb: &[u8; 3072], n: usize) -> bool
+    requires { ⌜ Counts n (now rgb) ⌝ }
+    ensures { λ r. ⌜ (r ≡ true → CutAfter (take n (now (rgb .entry)))) ⌝ }
+{
+    n == rgb.len()
+}
+
+// One bufferful, or fewer bytes where the input ends. Answers whether there may be more.
 fn step() -> bool {
     let mut rgb = [0u8; 3072];
     let mut out = [0u8; 24586];
@@ -105,7 +114,7 @@ fn step() -> bool {
     if !io::write_all(STDOUT_FILENO, &out[..k]) {
         return false;
     }
-    n == 3072
+    full(&rgb, n)
 }
 
 // A proved loop has to end, and nothing says that the input does. So it counts its turns down, from a number that no run

@@ -6,8 +6,8 @@
 ghost use mathlib.Core.Path.{_≡_};
 ghost use Prim.Native.Nat.{_+_, _*_, _/_, _≤_, _<_, min};
 ghost use lib.ListN.{length, getD};
+ghost use lib.Seq.{sets};
 ghost use Rattle.lent.specs.Paint.{paint, every};
-ghost use Rattle.lent.specs.Pixels.{stored};
 ghost use Rattle.lent.specs.Sizes.{roundUp, halfUp, tooShort};
 
 // What a call answers: 0 or the number of its refusal, and a count, which is 0 in every refusal.
@@ -63,7 +63,7 @@ pub fn fill(dst: &mut [u8], value: u8)
 // Pixel i of out becomes p.
 pub fn put_pixel(out: &mut [u8], i: usize, p: [u8; 4])
     requires { ⌜ 4 * i + 4 ≤ length (now out) ⌝ }
-    ensures { λ _. ⌜ now (out .exit) ≡ stored (now (out .entry)) (4 * i) p ⌝ }
+    ensures { λ _. ⌜ now (out .exit) ≡ sets (now (out .entry)) (4 * i) p ⌝ }
 {
     let k = 4 * i;
     out[k] = p[0];

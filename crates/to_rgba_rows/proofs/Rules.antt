@@ -8,10 +8,11 @@ use mathlib.Core.Bool.{true, false, _&&_}
 use mathlib.Core.List.{List, [], _∷_}
 use lib.Dec.{eqb}
 use lib.ListN.{length, getD}
+use lib.Seq.{sets}
 use borrow.Author.Tests.{eq-eqb, eqb-true}
 use Rattle.colour.specs.Colour.{reverseOf, filterOf}
 use Rattle.lent.specs.Samples.{sample}
-use Rattle.lent.specs.Pixels.{stored, done}
+use Rattle.lent.specs.Pixels.{done}
 use Rattle.lent.proofs.Pixels.{done-step}
 use Rattle.lent.proofs.Cells.{row-in}
 use Rattle.lent.proofs.Bools.{never-true, both, both-left, both-right}
@@ -53,9 +54,10 @@ odd-col-off : (row col : ℕ) → col % 2 ≡ 1 → (eqb (row % 2) 0 && eqb (col
 odd-col-off row col odd = never-true _ (λ e. omega (arith, eqb-true (col % 2) 0 (both-right (eqb (row % 2) 0) _ e)))
 
 -- the pixel at column left + i is stored, where the first i are done: by the three cases of row and column
-module _ (stride row left : ℕ) (y u v xs : List ℕ) (i at m : ℕ) {was is p : List ℕ} (before : was ≡ done (rowFrom left (pixelAt stride y u v row)) i xs) (store : is ≡ stored was (4 * i) p) (room : 4 * i + 4 ≤ length xs) (here : at ≡ row * stride + left + i) (next : m ≡ i + 1) where
+module _ (stride row left : ℕ) (y u v xs : List ℕ) (i at m : ℕ) {was is p : List ℕ} (before : was ≡ done (rowFrom left (pixelAt stride y u v row)) i xs) (store : is ≡ sets was (4 * i) p) (room : 4 * i + 4 ≤ length xs) (here : at ≡ row * stride + left + i) (next : m ≡ i + 1) where
   by : p ≡ pixelAt stride y u v row (left + i) → is ≡ done (rowFrom left (pixelAt stride y u v row)) m xs
-  by pixel = done-step _ xs i m before store pixel room next
+  unfolding pixelAt reverseOf
+  by pixel = done-step _ xs i m before store pixel (ap length pixel) room next
 
   pub odd-row-step : row % 2 ≡ 1 → p ≡ reverseOf (getD y at 0) (getD u at 0) (getD v at 0) → is ≡ done (rowFrom left (pixelAt stride y u v row)) m xs
   odd-row-step odd pixel = by (pixel ∙ plain-pixel stride row (left + i) at (omega arith) (odd-row-off row (left + i) odd) y u v)
@@ -68,7 +70,7 @@ module _ (stride row left : ℕ) (y u v xs : List ℕ) (i at m : ℕ) {was is p 
 
 -- a pair of an even row: the pixels at columns left + j and left + j + 1, where the first j are done
 module _ (stride row left : ℕ) (y u v xs : List ℕ) (j at m : ℕ) {was mid is p q : List ℕ} where
-  pub pair-step : was ≡ done (rowFrom left (pixelAt stride y u v row)) j xs → mid ≡ stored was (4 * j) p → is ≡ stored mid (4 * (j + 1)) q
+  pub pair-step : was ≡ done (rowFrom left (pixelAt stride y u v row)) j xs → mid ≡ sets was (4 * j) p → is ≡ sets mid (4 * (j + 1)) q
       → 4 * j + 8 ≤ length xs → at ≡ row * stride + left + j → m ≡ j + 2 → row % 2 ≡ 0 → (left + j) % 2 ≡ 0
       → p ≡ reverseOf (getD y at 0) (filterOf (cornersAt u at (at + stride))) (filterOf (cornersAt v at (at + stride)))
       → q ≡ reverseOf (getD y (at + 1) 0) (getD u (at + 1) 0) (getD v (at + 1) 0)
@@ -82,8 +84,13 @@ module _ (stride row left : ℕ) (y u v xs : List ℕ) (j at m : ℕ) {was mid i
 pub two-rows : (stride rows row : ℕ) → row + 2 ≤ rows → row * stride + 2 * stride ≤ rows * stride
 two-rows stride rows row lt = omega (arith, row-in stride rows (row + 1) (omega arith), next-row stride row)
 
+-- a pixel is four bytes
+pub reverse-four : (y u v : ℕ) → length (reverseOf y u v) ≡ 4
+unfolding reverseOf
+reverse-four y u v = refl
+
 -- a pixel of a view's row, by any colour matrix
-pub view-step : (m : ℕ → ℕ → ℕ → List ℕ) (luma chroma row : ℕ) (y u v xs : List ℕ) (j at c k : ℕ) {was is p : List ℕ} → was ≡ done (viewPixelAt m luma chroma y u v row) j xs → is ≡ stored was (4 * j) p → 4 * j + 4 ≤ length xs → at ≡ row * luma + j → c ≡ row / 2 * chroma + j / 2 → k ≡ j + 1 → p ≡ m (getD y at 0) (getD u c 0) (getD v c 0) → is ≡ done (viewPixelAt m luma chroma y u v row) k xs
+pub view-step : (m : ℕ → ℕ → ℕ → List ℕ) → ((a b c : ℕ) → length (m a b c) ≡ 4) → (luma chroma row : ℕ) (y u v xs : List ℕ) (j at c k : ℕ) {was is p : List ℕ} → was ≡ done (viewPixelAt m luma chroma y u v row) j xs → is ≡ sets was (4 * j) p → 4 * j + 4 ≤ length xs → at ≡ row * luma + j → c ≡ row / 2 * chroma + j / 2 → k ≡ j + 1 → p ≡ m (getD y at 0) (getD u c 0) (getD v c 0) → is ≡ done (viewPixelAt m luma chroma y u v row) k xs
 unfolding viewPixelAt sample
-view-step m luma chroma row y u v xs j at c k before store room here half next pixel =
-    done-step _ xs j k before store (pixel ∙ (λ i. m (getD y (here i) 0) (getD u (half i) 0) (getD v (half i) 0))) room next
+view-step m four luma chroma row y u v xs j at c k before store room here half next pixel =
+    done-step _ xs j k before store (pixel ∙ (λ i. m (getD y (here i) 0) (getD u (half i) 0) (getD v (half i) 0))) (ap length pixel ∙ four _ _ _) room next

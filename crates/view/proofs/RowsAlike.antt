@@ -12,10 +12,9 @@ use Rattle.lent.specs.Sizes.{halfUp}
 use Rattle.lent.proofs.Bools.{split}
 use Rattle.view.specs.declared.View.{View}
 use Rattle.view.specs.declared.Plane.{Plane}
-use Rattle.view.specs.declared.RowStart.{RowStart}
-use Rattle.view.specs.declared.RowStart.the-variants.{At, Absent}
 use Rattle.view.specs.View.{lumaOf, chromaOf, viewNumberOf, PlaneFits}
-use Rattle.view.specs.Rows.{findRowOf, presentIn, lengthIn, bytesIn}
+use Rattle.view.specs.Starts.{Values, aRow, noRow, lengthIn, bytesIn}
+use Rattle.view.specs.Rows.{findRowOf}
 use Rattle.view.specs.Alike.{SameSamples, Alike}
 use Rattle.view.specs.SameRow.{SameRow}
 use Rattle.view.proofs.Exactly.{luma-fits, u-fits, v-fits}
@@ -24,7 +23,7 @@ use Rattle.view.proofs.RowLaws.{findRow-accepted, row-length, row-sampl
 
 module _ {n m : ℕ} (p q : Plane) (xs ys : List ℕ) (done : n ≡ 0) (done′ : m ≡ 0) (wide : p .width ≡ q .width) (high : p .height ≡ q .height)
     (fits : PlaneFits p (length xs)) (fits′ : PlaneFits q (length ys)) (same : SameSamples p xs q ys) (r : ℕ) where
-  bytes-same : r < p .height → bytesIn (At (r * p .stride)) (p .width) xs ≡ bytesIn (At (r * q .stride)) (q .width) ys
+  bytes-same : r < p .height → bytesIn (aRow (r * p .stride)) (p .width) xs ≡ bytesIn (aRow (r * q .stride)) (q .width) ys
   bytes-same h =
       let long = row-length p xs r fits h in
       let h′ : r < q .height = omega arith in
@@ -32,24 +31,24 @@ module _ {n m : ℕ} (p q : Plane) (xs ys : List ℕ) (done : n ≡ 0) (done′ 
       (λ c hc. let k : c < p .width = omega arith in
       row-sample p xs r c k ∙ same r c h k ∙ sym (row-sample q ys r c (omega arith)))
 
-  -- two rows that were found in one case of the enum
-  case : (s t : RowStart) → findRowOf n p r ≡ s → findRowOf m q r ≡ t → presentIn s ≡ presentIn t → lengthIn s (p .width) ≡ lengthIn t (q .width) → bytesIn s (p .width) xs ≡ bytesIn t (q .width) ys → SameRow n p xs m q ys r
+  -- two rows that were found, or two that are absent
+  case : (s t : Values) → findRowOf n p r ≡ s → findRowOf m q r ≡ t → s .present ≡ t .present → lengthIn s (p .width) ≡ lengthIn t (q .width) → bytesIn s (p .width) xs ≡ bytesIn t (q .width) ys → SameRow n p xs m q ys r
   case s t e e′ a b c = record {
     number = done ∙ sym done′;
-    present = ap presentIn e ∙ a ∙ sym (ap presentIn e′);
-    length = ap (λ (x : RowStart). lengthIn x (p .width)) e ∙ b ∙ sym (ap (λ (x : RowStart). lengthIn x (q .width)) e′);
-    bytes = ap (λ (x : RowStart). bytesIn x (p .width) xs) e ∙ c ∙ sym (ap (λ (x : RowStart). bytesIn x (q .width) ys) e′);
+    present = ap (λ (v : Values). v .present) e ∙ a ∙ sym (ap (λ (v : Values). v .present) e′);
+    length = ap (λ (v : Values). lengthIn v (p .width)) e ∙ b ∙ sym (ap (λ (v : Values). lengthIn v (q .width)) e′);
+    bytes = ap (λ (v : Values). bytesIn v (p .width) xs) e ∙ c ∙ sym (ap (λ (v : Values). bytesIn v (q .width) ys) e′);
   }
 
   pub plane-alike : SameRow n p xs m q ys r
   plane-alike = ⊎-elim
       (λ h. let h′ : r < q .height = omega arith in
-      case (At (r * p .stride)) (At (r * q .stride))
+      case (aRow (r * p .stride)) (aRow (r * q .stride))
       (findRow-accepted n p r done ∙ rowStart-holds (p .stride) (p .height) r h)
       (findRow-accepted m q r done′ ∙ rowStart-holds (q .stride) (q .height) r h′)
       refl wide (bytes-same h))
       (λ h. let h′ : q .height ≤ r = omega arith in
-      case Absent Absent
+      case noRow noRow
       (findRow-accepted n p r done ∙ rowStart-none (p .stride) (p .height) r h)
       (findRow-accepted m q r done′ ∙ rowStart-none (q .stride) (q .height) r h′)
       refl refl refl)

@@ -6,7 +6,8 @@ use Prim.Native.Nat.{ℕ}
 use mathlib.Core.Path.{_≡_}
 use mathlib.Core.List.{List}
 use Rattle.view.specs.declared.Plane.{Plane}
-use Rattle.view.specs.Rows.{findRowOf, bytesIn, rowAnswerOf}
+use Rattle.view.specs.Starts.{bytesIn}
+use Rattle.view.specs.Rows.{findRowOf, rowAnswerOf}
 
 pub record SameRow (n : ℕ) (p : Plane) (xs : List ℕ) (m : ℕ) (q : Plane) (ys : List ℕ) (r : ℕ) : Type 0 where
   pub number : rowAnswerOf n p r .number ≡ rowAnswerOf m q r .number

@@ -11,7 +11,7 @@ ghost use Prim.Native.Nat.{_*_, _≤_};
 ghost use lib.ListN.{length};
 ghost use Rattle.lent.specs.Outcome.{Outcome, answerOf};
 ghost use Rattle.view.specs.View.{lumaOf, chromaOf, narrow, planeShort, viewNumberOf};
-ghost use Rattle.view.specs.Starts.{rowStartOf};
+ghost use Rattle.view.specs.Starts.{valuesOf, rowStartOf};
 
 pub struct View {
     pub width: u16,
@@ -105,7 +105,7 @@ pub fn new(w: View, y: &[u8], u: &[u8], v: &[u8]) -> lent::Answer
 // Where row `row` starts. A plane of len bytes holds all rows, so that the product does not wrap.
 pub fn row_start(len: usize, stride: usize, rows: usize, row: usize) -> RowStart
     requires { ⌜ rows * stride ≤ len ⌝ }
-    ensures { λ r. ⌜ r ≡ rowStartOf stride rows row ⌝ }
+    ensures { λ r. ⌜ valuesOf r ≡ rowStartOf stride rows row ⌝ }
 {
     if row < rows {
         RowStart::At(row * stride)

@@ -1,12 +1,13 @@
 // The rows of a 4:2:0 view, as parts of the caller's planes.
 //
 // A row of an accepted view is the caller's own bytes at row x stride, its plane's width long (specs/Rows.antt), and a refused view has
-// no row; bytes between width and stride or after the last row reach no answer (proofs/Alike.antt).
+// no row; bytes between width and stride or after the last row reach no answer (proofs/RowsAlike.antt).
 ghost use mathlib.Core.Path.{_≡_};
 ghost use mathlib.Core.List.{[]};
 ghost use lib.ListN.{length};
 ghost use Rattle.lent.specs.Outcome.{Outcome};
 ghost use Rattle.view.specs.View.{lumaOf, chromaOf, viewNumberOf, PlaneFits};
+ghost use Rattle.view.specs.Starts.{valuesOf};
 ghost use Rattle.view.specs.Rows.{findRowOf, rowAnswerOf, RowPart};
 use crate::Plane;
 use crate::RowStart;
@@ -24,7 +25,7 @@ pub struct Row {
 // Where row `row` starts in a plane of a view that was answered with n: a refused view has no row.
 fn find_row(n: u32, p: Plane, len: usize, row: usize) -> RowStart
     requires { ⌜ (n ≡ 0 → PlaneFits p len) ⌝ }
-    ensures { λ r. ⌜ r ≡ findRowOf n p row ⌝ }
+    ensures { λ r. ⌜ valuesOf r ≡ findRowOf n p row ⌝ }
 {
     if n != 0 {
         return RowStart::Absent;

@@ -7,7 +7,8 @@
 -- A further kind of line is a constructor of Line, a clause of Right and its lines in the table.
 use mathlib.Core.List.{List, [], _∷_, _++_}
 use mathlib.Core.Path.{_≡_}
-use Prim.Native.Nat.{ℕ, zero, suc, _-_}
+use Prim.Native.Nat.{ℕ, _-_}
+use lib.ListN.{replicate}
 use Rattle.colour.specs.Colour.{forwardOf, reverseOf, filteredOf}
 use Rattle.picture.specs.declared.Size.{Size}
 use Rattle.view.specs.declared.View.{View}
@@ -23,12 +24,8 @@ pub data Line : Type 0 where
   -- view, and the chroma columns
   rectangle : ℕ → ℕ → ℕ → ℕ → List (List ℕ) → List (List ℕ) → Line
 
-abbrev repeated : ℕ → List ℕ → List (List ℕ)
-repeated zero cs = []
-repeated (suc n) cs = cs ∷ repeated n cs
-
 abbrev pub firstRows : ℕ → List ℕ → List (List ℕ)
-firstRows n cs = repeated n cs ++ repeated (16 - n) []
+firstRows n cs = replicate n cs ++ replicate (16 - n) []
 
 abbrev size5 : Size
 size5 = record { width = 5; height = 5 }

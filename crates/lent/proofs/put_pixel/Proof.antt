@@ -1,6 +1,6 @@
 use native.Mathlib.Omega.{arith}
 use lib.ListN.{length-set}
-use Rattle.lent.specs.Pixels.{stored}
+use Rattle.lent.proofs.Pixels.{stores}
 use borrow.Author.Needs.{needs}
 use Rattle.lent.proofs.put_pixel.Statement.{statement}
 use Rattle.lent.proofs.put_pixel.Tie as tie
@@ -45,8 +45,7 @@ same-length : tie.Need-same-length
 same-length c = search needs
 
 returns : tie.Need-returns
-unfolding stored
-returns c = cc
+returns c = stores _ _ (c .args .t3) (search needs)
 
 pub put-pixel-spec : {M : Type 1} → statement M
 put-pixel-spec =

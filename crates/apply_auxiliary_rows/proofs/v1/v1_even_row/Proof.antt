@@ -3,7 +3,7 @@
 use borrow.Author.Needs.{needs}
 use Prim.Native.Nat.{ℕ, _+_, _*_, _/_, _<_, _≤_, min}
 use native.Mathlib.Omega.{arith}
-use mathlib.Core.Path.{_≡_, refl, sym, ap, _∙_}
+use mathlib.Core.Path.{_≡_, refl, ap, _∙_}
 use lib.ListN.{length, getD}
 use denote.Ref.{now}
 use Rattle.lent.specs.Paint.{painted, rowPart}
@@ -24,7 +24,7 @@ entry f = f .before .before .before .before .before .before .before
 -- the view has the row, it starts at `at`, and it lies in the view's plane
 there : (f : tie.After-at) → let a = entry f .args in (a .row / 2 < halfUp (a .w .height)) × (f .at .given .0 .0 ≡ a .row / 2 * a .w .«chroma_stride»)
 there f =
-    let t = rowStart-at _ _ _ _ (sym (f .before .before .row-start .ensures) ∙ f .at .given .1) in
+    let t = rowStart-at _ _ _ (f .before .before .row-start .ensures) (f .at .given .1) in
     (omega (arith, t .0, f .before .before .before .half-up2 .ensures), t .1)
 
 view-row : (f : tie.After-at) → let a = entry f .args in f .at .given .0 .0 + a .w .«chroma_stride» ≤ length (now (a .samples))
@@ -56,7 +56,7 @@ returns c =
     let r = c .before .before in
     let s = r .before .before .before .before .before in
     let a = s .args in
-    let late = rowStart-absent _ _ _ (sym (r .row-start .ensures) ∙ c .enum-told .given .1) in
+    let late = rowStart-absent _ _ _ (r .row-start .ensures) (c .enum-told .given .1) in
     columns-none _ _ (a .row) (a .left) _ (a .right) _ _
     (λ k l h e. omega (arith, late, r .before .half-up2 .ensures, v1-even-facts (a .w .width) (a .w .height) (a .row) k (s .pre .1 .1) e))
 

@@ -32,7 +32,7 @@ below e lt = omega arith
 pair-there : (f : tie.After-at) → let a = entry f .args in upperOf (a .row) + 8 < a .w .height
 pair-there f =
     let b = second-of f .before .before in
-    let t = rowStart-at _ _ _ _ (sym (b .before .before .row-start .ensures) ∙ b .-below .given .1) in
+    let t = rowStart-at _ _ _ (b .before .before .row-start .ensures) (b .-below .given .1) in
     below (b .before .before .before .before .upper .ensures) (t .0)
 
 -- the own row, and where it starts
@@ -44,7 +44,7 @@ there : (f : tie.After-at)
     let u = o .before .before .before .before .before .before in
     let a = entry f .args in
     (u .upper .result + o .second .result < a .w .height) × (f .at .given .0 .0 ≡ (u .upper .result + o .second .result) * a .w .«luma_stride»)
-there f = rowStart-at _ _ _ _ (sym (f .before .before .row-start2 .ensures) ∙ f .at .given .1)
+there f = rowStart-at _ _ _ (f .before .before .row-start2 .ensures) (f .at .given .1)
 
 view-row : (f : tie.After-at) → let a = entry f .args in f .at .given .0 .0 + a .w .«luma_stride» ≤ length (now (a .vy))
 view-row f =
@@ -76,7 +76,7 @@ returns c =
     let u = c .before .before .before .before in
     let s = u .before .before .before in
     let a = s .args in
-    let late = rowStart-absent _ _ _ (sym (c .before .before .row-start .ensures) ∙ c .enum-told .given .1) in
+    let late = rowStart-absent _ _ _ (c .before .before .row-start .ensures) (c .enum-told .given .1) in
     λ vu vv. columns-none _ _ (a .row) (a .left) _ (a .right) _ _
     (λ k l h e. omega (arith, late, u .upper .ensures, v1-odd-facts (a .w .width) (a .w .height) (a .row) k (s .pre .1 .1) e))
 
@@ -107,7 +107,7 @@ returns-2 c =
     let o = c .before .before .before .before in
     let s = o .before .before .before .before .before .before .before .before .before in
     let a = s .args in
-    let late = rowStart-absent _ _ _ (sym (c .before .before .row-start2 .ensures) ∙ c .enum-told2 .given .1) in
+    let late = rowStart-absent _ _ _ (c .before .before .row-start2 .ensures) (c .enum-told2 .given .1) in
     λ vu vv. columns-none _ _ (a .row) (a .left) _ (a .right) _ _
     (λ k l h e. omega (arith, late, own o, shift-le (a .which) 8, v1-odd-facts (a .w .width) (a .w .height) (a .row) k (s .pre .1 .1) e))
 

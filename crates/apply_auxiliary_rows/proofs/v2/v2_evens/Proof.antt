@@ -33,7 +33,7 @@ by-odd f = f .before .before .before .before .if1 .left
 
 there : (f : tie.After-start) → let a = entry f .args in (a .row / 2 < halfUp (a .w .height)) × (f .start .given .0 .0 ≡ a .row / 2 * a .w .«chroma_stride»)
 there f =
-    let t = rowStart-at _ _ _ _ (sym (f .before .before .row-start .ensures) ∙ f .start .given .1) in
+    let t = rowStart-at _ _ _ (f .before .before .row-start .ensures) (f .start .given .1) in
     (omega (arith, t .0, f .before .before .before .half-up .ensures), t .1)
 
 -- it lies in both planes
@@ -85,7 +85,7 @@ returns-2 : tie.Need-returns-2
 returns-2 c =
     let r = c .before .before in
     let a = r .before .before .before .before .before .before .args in
-    let late = rowStart-absent _ _ _ (sym (r .row-start .ensures) ∙ c .enum-told .given .1) in
+    let late = rowStart-absent _ _ _ (r .row-start .ensures) (c .enum-told .given .1) in
     λ vy. columns-none _ _ (a .row) (a .left) _ (a .right) _ _ (λ k l h e. omega (arith, late, r .before .half-up .ensures, v2-evens-facts (a .w) (a .row) k e))
 
 v2-evens-below-requires : tie.Need-v2-evens-below-requires

@@ -28,7 +28,7 @@ entry f = f .before .before .before .before .before .before
 
 -- the view has the row, it starts at `start`, and it lies in the view's plane
 there : (f : tie.After-start) → let a = entry f .args in (a .row < a .w .height) × (f .start .given .0 .0 ≡ a .row * a .w .«luma_stride»)
-there f = rowStart-at _ _ _ _ (sym (f .before .before .row-start .ensures) ∙ f .start .given .1)
+there f = rowStart-at _ _ _ (f .before .before .row-start .ensures) (f .start .given .1)
 
 view-row : (f : tie.After-start) → let a = entry f .args in f .start .given .0 .0 + a .w .«luma_stride» ≤ length (now (a .vy))
 view-row f = let s = entry f in omega (arith, there f .1, row-fits (lumaOf (s .args .w)) _ (s .args .row) (s .pre .1) (there f .0) .0)
@@ -67,7 +67,7 @@ enum-told c = search needs
 returns : tie.Need-returns
 returns c =
     let a = c .before .before .before .before .before .before .args in
-    let late = rowStart-absent _ _ _ (sym (c .before .before .row-start .ensures) ∙ c .enum-told .given .1) in
+    let late = rowStart-absent _ _ _ (c .before .before .row-start .ensures) (c .enum-told .given .1) in
     λ vu vv. columns-none _ _ (a .row) (a .left) _ (a .right) _ _ (λ k l h e. omega (arith, late, v2-odds-facts (a .w) (a .row) k e))
 
 v2-odds-below-requires : tie.Need-v2-odds-below-requires

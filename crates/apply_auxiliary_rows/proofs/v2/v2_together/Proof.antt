@@ -46,13 +46,13 @@ stops t = let a = entry t .args in t .before .least .ensures ∙ ap (λ (m : ℕ
 
 -- both rows exist, with their starts
 luma-there : (f : tie.After-luma) → let a = entry (tested f) .args in (a .row < a .w .height) × (f .luma .given .0 .0 ≡ a .row * a .w .«luma_stride»)
-luma-there f = rowStart-at _ _ _ _ (sym (f .before .before .row-start .ensures) ∙ f .luma .given .1)
+luma-there f = rowStart-at _ _ _ (f .before .before .row-start .ensures) (f .luma .given .1)
 
 chroma-there : (f : tie.After-chroma)
     → let a = entry (tested (luma-of f)) .args in
     (a .row / 2 < halfUp (a .w .height)) × (f .chroma .given .0 .0 ≡ a .row / 2 * a .w .«chroma_stride»)
 chroma-there f =
-    let t = rowStart-at _ _ _ _ (sym (f .before .before .row-start2 .ensures) ∙ f .chroma .given .1) in
+    let t = rowStart-at _ _ _ (f .before .before .row-start2 .ensures) (f .chroma .given .1) in
     (omega (arith, t .0, f .before .before .before .half-up .ensures), t .1)
 
 luma-row : (f : tie.After-luma) → let a = entry (tested f) .args in f .luma .given .0 .0 + a .w .«luma_stride» ≤ length (now (a .vy))

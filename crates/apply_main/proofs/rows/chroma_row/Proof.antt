@@ -3,7 +3,7 @@
 use borrow.Author.Needs.{needs}
 use Prim.Native.Nat.{ℕ, _+_, _*_, _/_, _<_, _≤_}
 use native.Mathlib.Omega.{arith}
-use mathlib.Core.Path.{_≡_, refl, sym, _∙_}
+use mathlib.Core.Path.{_≡_, refl}
 use lib.ListN.{length}
 use denote.Ref.{now}
 use Rattle.picture.specs.Sizes.{strideOf}
@@ -17,7 +17,7 @@ start f = f .before .before .before .before .before
 
 -- the view has the row, it starts at `found`, and it lies in the view's plane
 there : (f : tie.After-found) → let a = start f .args in (a .row / 2 < a .from .height) × (f .found .given .0 .0 ≡ a .row / 2 * a .from .stride)
-there f = rowStart-at _ _ _ _ (sym (f .before .before .row-start .ensures) ∙ f .found .given .1)
+there f = rowStart-at _ _ _ (f .before .before .row-start .ensures) (f .found .given .1)
 
 view-row : (f : tie.After-found) → let a = start f .args in f .found .given .0 .0 + a .from .stride ≤ length (now (a .samples))
 view-row f = omega (arith, there f .1, line-fits _ _ _ _ _ refl (start f .pre .0 .view-fits) (there f .0))
@@ -39,7 +39,7 @@ enum-told c = search needs
 
 returns : tie.Need-returns
 returns c =
-    let late = rowStart-absent _ _ _ (sym (c .before .before .row-start .ensures) ∙ c .enum-told .given .1) in
+    let late = rowStart-absent _ _ _ (c .before .before .row-start .ensures) (c .enum-told .given .1) in
     row-absent _ _ _ _ _ _ _ _ (omega arith)
 
 stride-requires : tie.Need-stride-requires

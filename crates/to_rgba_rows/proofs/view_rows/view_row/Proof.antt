@@ -9,7 +9,7 @@ use Rattle.colour.specs.Colour.{reverseOf}
 use Rattle.lent.specs.Pixels.{done}
 use Rattle.lent.proofs.Pixels.{done-none, done-at, done-all}
 use Rattle.to_rgba_rows.specs.Rules.{viewPixelAt}
-use Rattle.to_rgba_rows.proofs.Rules.{view-step}
+use Rattle.to_rgba_rows.proofs.Rules.{reverse-four, view-step}
 use Rattle.to_rgba_rows.proofs.view_rows.view_row.Statement.{statement}
 use Rattle.to_rgba_rows.proofs.view_rows.view_row.Tie as tie
 
@@ -73,8 +73,8 @@ loop-again c =
     let i = l .loop .i in (
       search needs,
       search needs,
-      view-step reverseOf (a .luma) (a .chroma) (a .row) _ _ _ _ (2 * i + 1) (at + 2 * i + 1) (half + i) _
-          (view-step reverseOf (a .luma) (a .chroma) (a .row) _ _ _ _ (2 * i) (at + 2 * i) (half + i) (2 * i + 1) (l .loop .inv .2) (one .put-pixel .ensures) (omega arith) refl (omega arith) refl (one .before .plain .ensures))
+      view-step reverseOf reverse-four (a .luma) (a .chroma) (a .row) _ _ _ _ (2 * i + 1) (at + 2 * i + 1) (half + i) _
+          (view-step reverseOf reverse-four (a .luma) (a .chroma) (a .row) _ _ _ _ (2 * i) (at + 2 * i) (half + i) (2 * i + 1) (l .loop .inv .2) (one .put-pixel .ensures) (omega arith) refl (omega arith) refl (one .before .plain .ensures))
           (second .put-pixel2 .ensures) (omega arith) (omega arith) (omega arith) (omega arith) (second .before .plain2 .ensures),
     )
 
@@ -102,7 +102,7 @@ returns c =
     let l = last .before .before .before .before .before in
     let a = l .before .before .before .before .before .args in
     let pairs = a .n / 2 in
-    view-step reverseOf (a .luma) (a .chroma) (a .row) _ _ _ _ (2 * pairs) (a .row * a .luma + 2 * pairs) (a .row / 2 * a .chroma + pairs) (2 * pairs + 1)
+    view-step reverseOf reverse-four (a .luma) (a .chroma) (a .row) _ _ _ _ (2 * pairs) (a .row * a .luma + 2 * pairs) (a .row / 2 * a .chroma + pairs) (2 * pairs + 1)
     (done-at _ _ _ (2 * pairs) (l .loop .inv .2) (omega arith)) (last .put-pixel3 .ensures) (omega arith) refl (omega arith) refl (last .before .plain3 .ensures)
     ∙ done-all _ _ (2 * pairs + 1) (omega arith)
 

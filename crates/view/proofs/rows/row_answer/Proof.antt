@@ -2,7 +2,7 @@
 -- Assumes nothing.
 use borrow.Author.Needs.{needs}
 use mathlib.Core.Path.{sym, ap, _∙_}
-use Rattle.view.specs.declared.RowStart.{RowStart}
+use Rattle.view.specs.Starts.{Values, valuesOf}
 use Rattle.view.specs.Rows.{rowIn}
 use Rattle.view.proofs.rows.row_answer.Statement.{statement}
 use Rattle.view.proofs.rows.row_answer.Tie as tie
@@ -20,13 +20,13 @@ returns : tie.Need-returns
 returns c =
     let b = c .before .before in
     let a = b .before .args in
-    ap (λ (s : RowStart). rowIn (a .n) s (a .p .width)) (sym (c .enum-told .given .1) ∙ b .find-row .ensures)
+    ap (λ (v : Values). rowIn (a .n) v (a .p .width)) (sym (ap valuesOf (c .enum-told .given .1)) ∙ b .find-row .ensures)
 
 returns-2 : tie.Need-returns-2
 returns-2 c =
     let b = c .before .before .before in
     let a = b .before .args in
-    ap (λ (s : RowStart). rowIn (a .n) s (a .p .width)) (sym (c .before .start .given .1) ∙ b .find-row .ensures)
+    ap (λ (v : Values). rowIn (a .n) v (a .p .width)) (sym (ap valuesOf (c .before .start .given .1)) ∙ b .find-row .ensures)
 
 pub row-answer-spec : {M : Type 1} → statement M
 row-answer-spec =

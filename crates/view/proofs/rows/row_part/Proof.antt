@@ -8,8 +8,7 @@ use native.Mathlib.Omega.{arith}
 use mathlib.Core.Path.{refl, sym, ap, _∙_}
 use lib.ListN.{length, take, drop}
 use denote.Ref.{now}
-use Rattle.view.specs.declared.RowStart.{RowStart}
-use Rattle.view.specs.Rows.{startIn, bytesIn}
+use Rattle.view.specs.Starts.{Values, valuesOf, bytesIn}
 use Rattle.view.proofs.RowLaws.{found-fits}
 use Rattle.view.proofs.rows.row_part.Statement.{statement}
 use Rattle.view.proofs.rows.row_part.Tie as tie
@@ -21,7 +20,7 @@ within c =
     let d = c .before .before in
     let b = d .before .before in
     let s = b .before .before in
-    found-fits (s .args .n) (s .args .p) _ (s .args .row) _ (s .pre) (sym (b .find-row .ensures) ∙ d .start .given .1)
+    found-fits (s .args .n) (s .args .p) _ (s .args .row) (s .pre) (b .find-row .ensures) (d .start .given .1)
 
 find-row-requires : tie.Need-find-row-requires
 find-row-requires c κs = search needs
@@ -39,11 +38,11 @@ returns : tie.Need-returns
 returns c =
     let b = c .before .before .before in
     let a = b .before .before .args in
-    let e = sym (c .before .enum-told .given .1) ∙ b .find-row .ensures in
+    let e = sym (ap valuesOf (c .before .enum-told .given .1)) ∙ b .find-row .ensures in
     record {
       block = refl;
-      offset = sym (zero-add (a .plane .ptr .1)) ∙ ap (λ (s : RowStart). startIn s + a .plane .ptr .1) e;
-      holds = ap (λ (s : RowStart). bytesIn s (a .p .width) (now (a .plane))) e;
+      offset = sym (zero-add (a .plane .ptr .1)) ∙ ap (λ (v : Values). v .start + a .plane .ptr .1) e;
+      holds = ap (λ (v : Values). bytesIn v (a .p .width) (now (a .plane))) e;
     }
 
 add-end : tie.Need-add-end
@@ -64,13 +63,13 @@ returns-2 c =
     let b = d .before .before in
     let a = b .before .before .args in
     let at = d .start .given .0 .0 in
-    let e = sym (d .start .given .1) ∙ b .find-row .ensures in
+    let e = sym (ap valuesOf (d .start .given .1)) ∙ b .find-row .ensures in
     record {
       block = refl;
-      offset = ap (λ (s : RowStart). startIn s + a .plane .ptr .1) e;
+      offset = ap (λ (v : Values). v .start + a .plane .ptr .1) e;
       holds =
           ap (λ (n : ℕ). take n (drop at (now (a .plane)))) (add-sub-cancel-left at (a .p .width))
-          ∙ ap (λ (s : RowStart). bytesIn s (a .p .width) (now (a .plane))) e;
+          ∙ ap (λ (v : Values). bytesIn v (a .p .width) (now (a .plane))) e;
     }
 
 pub row-part-spec : {M : Type 1} → statement M
