@@ -5,7 +5,7 @@
 --   Back s a kind l c           a reader's answer a gives back from s what was given: the kind, and the parts of each stream that is carried;
 --                               the other one stands nowhere
 --   writeReadOf kind l c n      the answer of a call that writes into n bytes and reads what it wrote
---   WriteReadEnds kind l c out  how that call ends: by the definitions of the two calls, and with `Back` where nothing was refused
+--   WriteReadOutcome kind l c out    how that call ends: by the definitions of the two calls, and with `Back` where nothing was refused
 --   numbersIn bs                the numbers of 16 bits whose bytes these are
 --   givenIn s w                 the parts of a payload's stream, as they are given to a writer
 --   AllBelow k ns               each number is below k: bytes are below 256, numbers of 16 bits below 2^16
@@ -37,7 +37,7 @@ pub record Back (s : List ℕ) (a : Avc444) (kind : ℕ) (l c : Given) : Type 0 
 abbrev pub writeReadOf : ℕ → Given → Given → ℕ → Avc444
 writeReadOf kind l c n = cond (eqb (givenNumberOf kind l c n) 0) (readOf (payloadOf kind l c)) (refusedWith (givenNumberOf kind l c n))
 
-pub record WriteReadEnds (kind : ℕ) (l c : Given) (out : List ℕ) (r : Avc444) (after : List ℕ) : Type 0 where
+pub record WriteReadOutcome (kind : ℕ) (l c : Given) (out : List ℕ) (r : Avc444) (after : List ℕ) : Type 0 where
   pub ends : Outcome (writeReadOf kind l c (length out))
       (lentAfter (givenNumberOf kind l c (length out)) out (payloadOf kind l c ++ drop (length (payloadOf kind l c)) out) ∷ []) r (after ∷ [])
   pub back : givenNumberOf kind l c (length out) ≡ 0 → Back after r kind l c

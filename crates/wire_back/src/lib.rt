@@ -1,6 +1,6 @@
 // A payload written and read again, by the calls themselves: what the reader finds is what the writer was given.
 ghost use Rattle.wire_write.specs.Writing.{given};
-ghost use Rattle.wire_back.specs.Back.{WriteReadEnds};
+ghost use Rattle.wire_back.specs.Back.{WriteReadOutcome};
 
 // The payload is written into out, and what was written is read. 0, 8, 7, 11 or 6: the writer's numbers, since what it writes is accepted.
 pub fn write_read(
@@ -13,7 +13,7 @@ pub fn write_read(
     chroma_data: &[u8],
     out: &mut [u8],
 ) -> wire_read::Avc444
-    ensures { λ r. ⌜ WriteReadEnds kind (given (now («luma_rects» .entry)) (now («luma_pairs» .entry)) (now («luma_data» .entry)))
+    ensures { λ r. ⌜ WriteReadOutcome kind (given (now («luma_rects» .entry)) (now («luma_pairs» .entry)) (now («luma_data» .entry)))
         (given (now («chroma_rects» .entry)) (now («chroma_pairs» .entry)) (now («chroma_data» .entry)))
         (now (out .entry)) r (now (out .exit)) ⌝ }
 {
