@@ -7,9 +7,9 @@
 pub mod one; // one layout's calls
 
 ghost use mathlib.Core.Path.{_≡_};
-ghost use Rattle.split.specs.Split.{planes, splitNumberOf};
+ghost use Rattle.split.specs.Split.{atEntry, atExit, splitNumberOf};
 ghost use Rattle.agree_law.specs.Through.{firstOf, earlierNumberOf};
-ghost use Rattle.agree_law.specs.Both.{BothEnds};
+ghost use Rattle.agree_law.specs.Both.{BothOutcome};
 use layout::Layout;
 use picture::Size;
 use split::PlaneLengths;
@@ -24,7 +24,8 @@ fn both_number(
     second: PlaneLengths,
     nr: usize,
 ) -> u32
-    ensures { λ r. ⌜ r ≡ firstOf (firstOf (splitNumberOf size from main auxiliary) (earlierNumberOf size first nr)) (firstOf (splitNumberOf size from main auxiliary) (earlierNumberOf size second nr)) ⌝ }
+    ensures { λ r. ⌜ r ≡ firstOf (firstOf (splitNumberOf size from main auxiliary) (earlierNumberOf size first nr))
+        (firstOf (splitNumberOf size from main auxiliary) (earlierNumberOf size second nr)) ⌝ }
 {
     let number = crate::one::through_number(size, from, main, auxiliary, first, nr);
     if number != 0 {
@@ -54,7 +55,11 @@ pub fn both(
     second_u: &mut [u8],
     second_v: &mut [u8],
 ) -> lent::Answer
-    ensures { λ r. ⌜ BothEnds size (now (rects .entry)) (planes (now (y .entry)) (now (u .entry)) (now (v .entry))) (planes (now («main_y» .entry)) (now («main_u» .entry)) (now («main_v» .entry))) (planes (now («auxiliary_y» .entry)) (now («auxiliary_u» .entry)) (now («auxiliary_v» .entry))) (planes (now («first_y» .entry)) (now («first_u» .entry)) (now («first_v» .entry))) (planes (now («second_y» .entry)) (now («second_u» .entry)) (now («second_v» .entry))) r (planes (now («main_y» .exit)) (now («main_u» .exit)) (now («main_v» .exit))) (planes (now («auxiliary_y» .exit)) (now («auxiliary_u» .exit)) (now («auxiliary_v» .exit))) (planes (now («first_y» .exit)) (now («first_u» .exit)) (now («first_v» .exit))) (planes (now («second_y» .exit)) (now («second_u» .exit)) (now («second_v» .exit))) ⌝ }
+    ensures { λ r. ⌜ BothOutcome size (now (rects .entry)) (atEntry y u v)
+        (atEntry «main_y» «main_u» «main_v») (atEntry «auxiliary_y» «auxiliary_u» «auxiliary_v»)
+        (atEntry «first_y» «first_u» «first_v») (atEntry «second_y» «second_u» «second_v») r
+        (atExit «main_y» «main_u» «main_v») (atExit «auxiliary_y» «auxiliary_u» «auxiliary_v»)
+        (atExit «first_y» «first_u» «first_v») (atExit «second_y» «second_u» «second_v») ⌝ }
 {
     let from = PlaneLengths {
         y: y.len(),

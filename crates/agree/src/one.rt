@@ -5,8 +5,8 @@
 // number that a step would give before it writes anything; a refusal changes no byte. Number and every lent byte are equations
 // (agree_law/specs/Through.antt), and 0 comes with the theorem.
 ghost use mathlib.Core.Path.{_≡_};
-ghost use Rattle.split.specs.Split.{planes, splitNumberOf};
-ghost use Rattle.agree_law.specs.Through.{viewIn, firstOf, earlierNumberOf, ThroughEnds};
+ghost use Rattle.split.specs.Split.{atEntry, atExit, splitNumberOf};
+ghost use Rattle.agree_law.specs.Through.{viewIn, firstOf, earlierNumberOf, ThroughOutcome};
 use apply_auxiliary::apply_auxiliary_view;
 use layout::Layout;
 use picture::Size;
@@ -75,7 +75,9 @@ pub fn through(
     qu: &mut [u8],
     qv: &mut [u8],
 ) -> lent::Answer
-    ensures { λ r. ⌜ ThroughEnds layout size (now (rects .entry)) (planes (now (y .entry)) (now (u .entry)) (now (v .entry))) (planes (now («main_y» .entry)) (now («main_u» .entry)) (now («main_v» .entry))) (planes (now («auxiliary_y» .entry)) (now («auxiliary_u» .entry)) (now («auxiliary_v» .entry))) (planes (now (qy .entry)) (now (qu .entry)) (now (qv .entry))) r (planes (now («main_y» .exit)) (now («main_u» .exit)) (now («main_v» .exit))) (planes (now («auxiliary_y» .exit)) (now («auxiliary_u» .exit)) (now («auxiliary_v» .exit))) (planes (now (qy .exit)) (now (qu .exit)) (now (qv .exit))) ⌝ }
+    ensures { λ r. ⌜ ThroughOutcome layout size (now (rects .entry)) (atEntry y u v)
+        (atEntry «main_y» «main_u» «main_v») (atEntry «auxiliary_y» «auxiliary_u» «auxiliary_v») (atEntry qy qu qv) r
+        (atExit «main_y» «main_u» «main_v») (atExit «auxiliary_y» «auxiliary_u» «auxiliary_v») (atExit qy qu qv) ⌝ }
 {
     let from = PlaneLengths {
         y: y.len(),

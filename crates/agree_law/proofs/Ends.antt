@@ -13,13 +13,13 @@ use Rattle.view.specs.declared.View.{View}
 use Rattle.layout.specs.declared.Layout.{Layout}
 use Rattle.layout.specs.declared.Layout.the-variants.{V1, V2}
 use Rattle.rects.specs.Number.{lentNumberOf}
-use Rattle.apply_main.specs.Main.{mainBuffersOf, MainOutcome}
-use Rattle.apply_auxiliary.specs.Auxiliary.{auxiliaryBuffersOf, AuxiliaryOutcome}
+use Rattle.apply_main.specs.Main.{mainBuffersOf, ApplyMainViewOutcome}
+use Rattle.apply_auxiliary.specs.Auxiliary.{auxiliaryBuffersOf, ApplyAuxiliaryViewOutcome}
 use Rattle.split.specs.declared.number.Views.{Views}
-use Rattle.split.specs.Split.{Planes, lengthsOf, mainSample, auxiliarySample, viewAfter, splitNumberOf, splitAnswerOf, splitBuffersOf, SplitEnds}
+use Rattle.split.specs.Split.{Planes, lengthsOf, mainSample, auxiliarySample, viewAfter, splitNumberOf, splitAnswerOf, splitBuffersOf, SplitOutcome}
 use Rattle.agree_law.specs.Agrees.{pictureOf, Agrees}
-use Rattle.agree_law.specs.Through.{buffersIn, threeOf, viewOf, viewIn, mainViewOf, auxiliaryViewOf, withMain, throughOf, firstOf, applyNumberOn, throughNumberOf, earlierNumberOf, planesAfter, throughBuffersOf, ThroughEnds}
-use Rattle.agree_law.specs.Both.{secondOf, bothNumberOf, bothBuffersOf, BothEnds}
+use Rattle.agree_law.specs.Through.{buffersIn, threeOf, viewOf, viewIn, mainViewOf, auxiliaryViewOf, withMain, throughOf, firstOf, applyNumberOn, throughNumberOf, earlierNumberOf, planesAfter, throughBuffersOf, ThroughOutcome}
+use Rattle.agree_law.specs.Both.{secondOf, bothNumberOf, bothBuffersOf, BothOutcome}
 use Rattle.agree_law.proofs.Number.{first-zero, through-plainly}
 use Rattle.agree_law.proofs.Calls.{through-agrees}
 
@@ -31,7 +31,7 @@ module _ (t : Layout) (z : Size) (rects : List ℕ) (p m a q : Planes) where
   abbrev found : ℕ
   found = firstOf (splitNumberOf z (lengthsOf p) (lengthsOf m) (lengthsOf a)) (earlierNumberOf z (lengthsOf q) (length rects))
 
-  pub through-refused : {n : ℕ} → n ≡ found → (n ≡ 0 → ⊥) → ThroughEnds t z rects p m a q (record { number = n; count = 0 }) m a q
+  pub through-refused : {n : ℕ} → n ≡ found → (n ≡ 0 → ⊥) → ThroughOutcome t z rects p m a q (record { number = n; count = 0 }) m a q
   unfolding throughBuffersOf
   through-refused {n} is f =
       let num : n ≡ throughNumberOf t z rects p m a q = is ∙ sym (through-plainly t z rects p m a q) in
@@ -45,9 +45,9 @@ module _ (t : Layout) (z : Size) (rects : List ℕ) (p m a q : Planes) where
       }
 
   module _ (zero : throughNumberOf t z rects p m a q ≡ 0) {r : Views} {w : View} {r₁ r₂ : Answer} {m′ a′ mid x : Planes}
-      (split : SplitEnds t z p m a r (buffersIn m′ ++ buffersIn a′)) (sized : w ≡ viewIn r)
-      (first : MainOutcome z w rects (m′ .y) (m′ .u) (m′ .v) (q .y) (q .u) (q .v) r₁ (buffersIn mid))
-      (second : AuxiliaryOutcome t z w rects (a′ .y) (a′ .u) (a′ .v) (mid .y) (mid .u) (mid .v) r₂ (buffersIn x)) where
+      (split : SplitOutcome t z p m a r (buffersIn m′ ++ buffersIn a′)) (sized : w ≡ viewIn r)
+      (first : ApplyMainViewOutcome z w rects (m′ .y) (m′ .u) (m′ .v) (q .y) (q .u) (q .v) r₁ (buffersIn mid))
+      (second : ApplyAuxiliaryViewOutcome t z w rects (a′ .y) (a′ .u) (a′ .v) (mid .y) (mid .u) (mid .v) r₂ (buffersIn x)) where
     -- each step would answer 0
     zeros : (splitNumberOf z (lengthsOf p) (lengthsOf m) (lengthsOf a) ≡ 0)
         × ((applyNumberOn z rects (mainViewOf z p m) q ≡ 0) × (applyNumberOn z rects (auxiliaryViewOf t z p a) (withMain z rects (mainViewOf z p m) q) ≡ 0))
@@ -88,7 +88,7 @@ module _ (t : Layout) (z : Size) (rects : List ℕ) (p m a q : Planes) where
         ∙ ap (λ (n : ℕ). auxiliaryBuffersOf n t z w rects (a′ .y) (a′ .u) (a′ .v) (mid .y) (mid .u) (mid .v)) last-zero
         ∙ (λ i. auxiliaryBuffersOf 0 t z (size-is i) rects (auxiliary-is i .y) (auxiliary-is i .u) (auxiliary-is i .v) (mid-is i .y) (mid-is i .u) (mid-is i .v)))
 
-    pub through-done : ThroughEnds t z rects p m a q r₂ m′ a′ x
+    pub through-done : ThroughOutcome t z rects p m a q r₂ m′ a′ x
     unfolding throughBuffersOf
     through-done = record {
       ends = record {
@@ -102,7 +102,7 @@ module _ (t : Layout) (z : Size) (rects : List ℕ) (p m a q : Planes) where
 
 -- what a walk that answered 0 has left
 module _ (t : Layout) (z : Size) (rects : List ℕ) (p m a q : Planes) (zero : throughNumberOf t z rects p m a q ≡ 0) {r : Answer} {m′ a′ x : Planes}
-    (walk : ThroughEnds t z rects p m a q r m′ a′ x) where
+    (walk : ThroughOutcome t z rects p m a q r m′ a′ x) where
   answered : r ≡ answerOf 0 0
   answered = walk .ends .answer ∙ ap (λ (n : ℕ). answerOf n 0) zero
 
@@ -122,7 +122,7 @@ module _ (t : Layout) (z : Size) (rects : List ℕ) (p m a q : Planes) (zero : t
   earlier-left = ap (λ (l : List (List ℕ)). threeOf (drop 6 l)) left
 
 module _ (z : Size) (rects : List ℕ) (p m a q q′ : Planes) where
-  pub both-refused : {n : ℕ} → n ≡ bothNumberOf z rects p m a q q′ → (n ≡ 0 → ⊥) → BothEnds z rects p m a q q′ (record { number = n; count = 0 }) m a q q′
+  pub both-refused : {n : ℕ} → n ≡ bothNumberOf z rects p m a q q′ → (n ≡ 0 → ⊥) → BothOutcome z rects p m a q q′ (record { number = n; count = 0 }) m a q q′
   unfolding bothBuffersOf
   both-refused {n} is f =
       let not-zero : bothNumberOf z rects p m a q q′ ≡ 0 → ⊥ = λ e. f (is ∙ e) in
@@ -139,7 +139,7 @@ module _ (z : Size) (rects : List ℕ) (p m a q q′ : Planes) where
       }
 
   module _ (zero : bothNumberOf z rects p m a q q′ ≡ 0) {r₁ r₂ : Answer} {m₁ a₁ x m₂ a₂ x′ : Planes}
-      (one : ThroughEnds V1 z rects p m a q r₁ m₁ a₁ x) (two : ThroughEnds V2 z rects p m₁ a₁ q′ r₂ m₂ a₂ x′) where
+      (one : ThroughOutcome V1 z rects p m a q r₁ m₁ a₁ x) (two : ThroughOutcome V2 z rects p m₁ a₁ q′ r₂ m₂ a₂ x′) where
     both-zeros : (throughNumberOf V1 z rects p m a q ≡ 0) × (throughNumberOf V2 z rects p (mainViewOf z p m) (auxiliaryViewOf V1 z p a) q′ ≡ 0)
     unfolding bothNumberOf
     both-zeros = first-zero (throughNumberOf V1 z rects p m a q) _ zero
@@ -153,7 +153,7 @@ module _ (z : Size) (rects : List ℕ) (p m a q q′ : Planes) where
     then-zero : throughNumberOf V2 z rects p m₁ a₁ q′ ≡ 0
     then-zero = (λ i. throughNumberOf V2 z rects p (main-first i) (auxiliary-first i) q′) ∙ both-zeros .1
 
-    pub both-done : BothEnds z rects p m a q q′ r₂ m₂ a₂ x x′
+    pub both-done : BothOutcome z rects p m a q q′ r₂ m₂ a₂ x x′
     unfolding bothBuffersOf
     both-done = record {
       ends = record {

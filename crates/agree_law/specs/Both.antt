@@ -4,7 +4,7 @@
 --   secondOf z rects p m a q′             the second earlier picture q′ after both walks
 --   bothNumberOf z rects p m a q q′       the first number that a step of the six would give, 0 where none would refuse
 --   bothBuffersOf n z rects p m a q q′    the views' buffers and both earlier pictures afterwards, the number being n
---   BothEnds ...             how it ends: the answer r, the views' buffers m′ and a′, and x and x′, which the earlier pictures q and q′
+--   BothOutcome ...          how it ends: the answer r, the views' buffers m′ and a′, and x and x′, which the earlier pictures q and q′
 --                            have become. Number and every lent byte are equations, and 0 comes with demand 3 of both
 use Prim.Native.Nat.{ℕ}
 use mathlib.Core.Path.{_≡_}
@@ -31,7 +31,7 @@ bothBuffersOf n z rects p m a q q′ =
     ++ (planesAfter n q (throughOf V1 z rects p m a q)
     ++ planesAfter n q′ (secondOf z rects p m a q′)))
 
-pub record BothEnds (z : Size) (rects : List ℕ) (p m a q q′ : Planes) (r : Answer) (m′ a′ x x′ : Planes) : Type 0 where
+pub record BothOutcome (z : Size) (rects : List ℕ) (p m a q q′ : Planes) (r : Answer) (m′ a′ x x′ : Planes) : Type 0 where
   pub ends : Outcome (answerOf (bothNumberOf z rects p m a q q′) 0) (bothBuffersOf (bothNumberOf z rects p m a q q′) z rects p m a q q′)
       r (buffersIn m′ ++ (buffersIn a′ ++ (buffersIn x ++ buffersIn x′)))
   pub first : r .number ≡ 0 → Agrees z rects (pictureOf z p) (pictureOf z q) (pictureOf z x)

@@ -19,7 +19,7 @@
 --   Lent z rects p m a q     what 0 says (`through-0-exactly`): sides of 0 to 65,520, a list in fours, and buffers that are long enough
 --   planesAfter n old new    three buffers after a call that answered n
 --   throughBuffersOf n t z rects p m a q      the views' buffers and the earlier picture after the three steps, the number being n
---   ThroughEnds ...          how the three steps end: the answer r, the views' buffers m′ and a′, and x, which the earlier picture has become.
+--   ThroughOutcome ...       how the three steps end: the answer r, the views' buffers m′ and a′, and x, which the earlier picture has become.
 --                            Number and every lent byte are equations, and 0 comes with demand 3
 use Prim.Native.Nat.{ℕ, _/_, _%_, _≤_}
 use mathlib.Core.Path.{_≡_}
@@ -116,7 +116,7 @@ unfoldable pub throughBuffersOf : ℕ → Layout → Size → List ℕ → Plane
 throughBuffersOf n t z rects p m a q =
     planesAfter n m (mainViewOf z p m) ++ (planesAfter n a (auxiliaryViewOf t z p a) ++ planesAfter n q (throughOf t z rects p m a q))
 
-pub record ThroughEnds (t : Layout) (z : Size) (rects : List ℕ) (p m a q : Planes) (r : Answer) (m′ a′ x : Planes) : Type 0 where
+pub record ThroughOutcome (t : Layout) (z : Size) (rects : List ℕ) (p m a q : Planes) (r : Answer) (m′ a′ x : Planes) : Type 0 where
   pub ends : Outcome (answerOf (throughNumberOf t z rects p m a q) 0) (throughBuffersOf (throughNumberOf t z rects p m a q) t z rects p m a q)
       r (buffersIn m′ ++ (buffersIn a′ ++ buffersIn x))
   pub agrees : r .number ≡ 0 → Agrees z rects (pictureOf z p) (pictureOf z q) (pictureOf z x)

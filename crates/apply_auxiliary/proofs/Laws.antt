@@ -29,17 +29,17 @@ use Rattle.rects.proofs.Rects.{AllIn, taken-facts, list-same, list-none, list-e
 use Rattle.rects.specs.Number.{lentNumberOf}
 use Rattle.apply_auxiliary_rows.specs.Rows.{partSample, viewSample, auxiliarySource}
 use Rattle.apply_auxiliary_rows.proofs.Columns.{painted-join}
-use Rattle.apply_auxiliary.specs.Auxiliary.{auxiliaryIn, auxiliaryRule, auxiliaryAfter, auxiliaryBuffersOf, AuxiliaryOutcome}
+use Rattle.apply_auxiliary.specs.Auxiliary.{auxiliaryIn, auxiliaryRule, auxiliaryAfter, auxiliaryBuffersOf, ApplyAuxiliaryViewOutcome}
 use Rattle.apply_auxiliary.proofs.Taken.{auxiliaryIn-facts}
 
 -- ---- how a call ends
 
 module _ (t : Layout) (z : Size) (w : View) (rects vy vu vv y u v : List ℕ) where
-  pub auxiliary-unique : (r q : Answer) (rs qs : List (List ℕ)) → AuxiliaryOutcome t z w rects vy vu vv y u v r rs → AuxiliaryOutcome t z w rects vy vu vv y u v q qs → (r ≡ q) × (rs ≡ qs)
+  pub auxiliary-unique : (r q : Answer) (rs qs : List (List ℕ)) → ApplyAuxiliaryViewOutcome t z w rects vy vu vv y u v r rs → ApplyAuxiliaryViewOutcome t z w rects vy vu vv y u v q qs → (r ≡ q) × (rs ≡ qs)
   auxiliary-unique = outcome-unique (λ (n : ℕ). answerOf n 0) (λ n. auxiliaryBuffersOf n t z w rects vy vu vv y u v) (lentNumberOf z w rects vy vu vv y u v)
 
   -- luma is never touched by an auxiliary view, refused or done
-  pub auxiliary-luma : (r : Answer) (y′ u′ v′ : List ℕ) → AuxiliaryOutcome t z w rects vy vu vv y u v r (y′ ∷ u′ ∷ v′ ∷ []) → y′ ≡ y
+  pub auxiliary-luma : (r : Answer) (y′ u′ v′ : List ℕ) → ApplyAuxiliaryViewOutcome t z w rects vy vu vv y u v r (y′ ∷ u′ ∷ v′ ∷ []) → y′ ≡ y
   auxiliary-luma r y′ u′ v′ o = let e = o .buffers in cc
 
 -- ---- what is taken
@@ -111,7 +111,7 @@ module _ (t : Layout) {w w′ : View} {vy vu vv vy′ vu′ vv′ : List ℕ} (a
   -- and accepted calls end alike
   pub auxiliary-ends-alike : (z : Size) (rects y u v : List ℕ) (r r′ : Answer) (rs rs′ : List (List ℕ))
       → lentNumberOf z w rects vy vu vv y u v ≡ 0 → lentNumberOf z w′ rects vy′ vu′ vv′ y u v ≡ 0
-      → AuxiliaryOutcome t z w rects vy vu vv y u v r rs → AuxiliaryOutcome t z w′ rects vy′ vu′ vv′ y u v r′ rs′ → (r ≡ r′) × (rs ≡ rs′)
+      → ApplyAuxiliaryViewOutcome t z w rects vy vu vv y u v r rs → ApplyAuxiliaryViewOutcome t z w′ rects vy′ vu′ vv′ y u v r′ rs′ → (r ≡ r′) × (rs ≡ rs′)
   auxiliary-ends-alike z rects y u v r r′ rs rs′ n n′ o o′ =
       let same = n ∙ sym n′ in (
         o .answer ∙ ap (λ (m : ℕ). answerOf m 0) same ∙ sym (o′ .answer),

@@ -5,7 +5,7 @@
 --   auxiliaryRule t z w                 the same of a rectangle's widened area, as a rule of `rects`
 --   auxiliaryAfter t k z w rects vy vu vv plane      the chroma plane k after an accepted call: each sample that some rectangle takes is the view's
 --                                 sample at its spot (`auxiliarySource`), and every other byte is as before
---   AuxiliaryOutcome ...                how the call ends, refusals included: its number is that of the main view's call on the same buffers
+--   ApplyAuxiliaryViewOutcome ...       how the call ends, refusals included: its number is that of the main view's call on the same buffers
 --                                 (`lentNumberOf`: 1, 7, 3, 4), and Y's bytes are as they were in every case
 use Prim.Native.Nat.{ℕ}
 use mathlib.Core.Bool.{Bool, _&&_}
@@ -34,11 +34,12 @@ auxiliaryRule t z w left top right bottom = auxiliaryIn t w (chromaBlockAreaOf z
 abbrev pub auxiliaryAfter : Layout → Chroma → Size → View → List ℕ → List ℕ → List ℕ → List ℕ → List ℕ → List ℕ
 auxiliaryAfter t k z w rects vy vu vv plane = painted (strideOf z) (rowsOf z) (taken (auxiliaryRule t z w) rects) (auxiliarySource t k w vy vu vv) plane
 
--- the number n, count 0, and the three planes
+-- the three planes after a call that answers the number n
 abbrev pub auxiliaryBuffersOf : ℕ → Layout → Size → View → List ℕ → List ℕ → List ℕ → List ℕ → List ℕ → List ℕ → List ℕ → List (List ℕ)
 auxiliaryBuffersOf n t z w rects vy vu vv y u v =
     y ∷ lentAfter n u (auxiliaryAfter t CU z w rects vy vu vv u) ∷ lentAfter n v (auxiliaryAfter t CV z w rects vy vu vv v) ∷ []
 
-abbrev pub AuxiliaryOutcome : Layout → Size → View → List ℕ → List ℕ → List ℕ → List ℕ → List ℕ → List ℕ → List ℕ → Answer → List (List ℕ) → Type 0
-AuxiliaryOutcome t z w rects vy vu vv y u v =
-    Outcome (answerOf (lentNumberOf z w rects vy vu vv y u v) 0) (auxiliaryBuffersOf (lentNumberOf z w rects vy vu vv y u v) t z w rects vy vu vv y u v)
+abbrev pub ApplyAuxiliaryViewOutcome : Layout → Size → View → List ℕ → List ℕ → List ℕ → List ℕ → List ℕ → List ℕ → List ℕ → Answer → List (List ℕ) → Type 0
+ApplyAuxiliaryViewOutcome t z w rects vy vu vv y u v =
+    let n = lentNumberOf z w rects vy vu vv y u v in
+    Outcome (answerOf n 0) (auxiliaryBuffersOf n t z w rects vy vu vv y u v)

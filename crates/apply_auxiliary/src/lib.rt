@@ -12,7 +12,7 @@ ghost use Rattle.picture.specs.Sizes.{strideOf, rowsOf};
 ghost use Rattle.view.specs.View.{ViewFits};
 ghost use Rattle.rects.specs.Rects.{by};
 ghost use Rattle.apply_auxiliary_rows.specs.Rows.{auxiliarySource, auxiliaryRow, AreaFits};
-ghost use Rattle.apply_auxiliary.specs.Auxiliary.{auxiliaryIn, auxiliaryRule, auxiliaryAfter, AuxiliaryOutcome};
+ghost use Rattle.apply_auxiliary.specs.Auxiliary.{auxiliaryIn, auxiliaryRule, auxiliaryAfter, ApplyAuxiliaryViewOutcome};
 use layout::Chroma;
 use layout::Layout;
 use picture::Size;
@@ -36,7 +36,8 @@ fn auxiliary_row(
 )
     requires { ⌜ AreaFits size (length (now dst)) (row + 1) left right ⌝ }
     requires { ⌜ ViewFits w (length (now vy)) (length (now vu)) (length (now vv)) ⌝ }
-    ensures { λ _. ⌜ now (dst .exit) ≡ painted (strideOf size) (rowsOf size) (auxiliaryRow layout w row left right) (auxiliarySource layout which w (now (vy .entry)) (now (vu .entry)) (now (vv .entry))) (now (dst .entry)) ⌝ }
+    ensures { λ _. ⌜ now (dst .exit) ≡ painted (strideOf size) (rowsOf size) (auxiliaryRow layout w row left right)
+        (auxiliarySource layout which w (now (vy .entry)) (now (vu .entry)) (now (vv .entry))) (now (dst .entry)) ⌝ }
 {
     match layout {
         Layout::V1 => apply_auxiliary_rows::v1::v1_row(
@@ -80,7 +81,8 @@ fn auxiliary_rows(
 )
     requires { ⌜ AreaFits size (length (now plane)) (area .bottom) (area .left) (area .right) ⌝ }
     requires { ⌜ ViewFits w (length (now vy)) (length (now vu)) (length (now vv)) ⌝ }
-    ensures { λ _. ⌜ now (plane .exit) ≡ painted (strideOf size) (rowsOf size) (auxiliaryIn layout w area) (auxiliarySource layout which w (now (vy .entry)) (now (vu .entry)) (now (vv .entry))) (now (plane .entry)) ⌝ }
+    ensures { λ _. ⌜ now (plane .exit) ≡ painted (strideOf size) (rowsOf size) (auxiliaryIn layout w area)
+        (auxiliarySource layout which w (now (vy .entry)) (now (vu .entry)) (now (vv .entry))) (now (plane .entry)) ⌝ }
 {
     let mut row = area.top;
     while row < area.bottom {
@@ -115,7 +117,8 @@ fn auxiliary_rect(
 )
     requires { ⌜ rowsOf size * strideOf size ≤ length (now plane) ⌝ }
     requires { ⌜ ViewFits w (length (now vy)) (length (now vu)) (length (now vv)) ⌝ }
-    ensures { λ _. ⌜ now (plane .exit) ≡ painted (strideOf size) (rowsOf size) (by (auxiliaryRule layout size w) rect) (auxiliarySource layout which w (now (vy .entry)) (now (vu .entry)) (now (vv .entry))) (now (plane .entry)) ⌝ }
+    ensures { λ _. ⌜ now (plane .exit) ≡ painted (strideOf size) (rowsOf size) (by (auxiliaryRule layout size w) rect)
+        (auxiliarySource layout which w (now (vy .entry)) (now (vu .entry)) (now (vv .entry))) (now (plane .entry)) ⌝ }
 {
     let area = rects::chroma_block_area(size, rect.left, rect.top, rect.right, rect.bottom);
     if area.right <= area.left {
@@ -138,7 +141,8 @@ fn auxiliary_rects(
 )
     requires { ⌜ rowsOf size * strideOf size ≤ length (now plane) ⌝ }
     requires { ⌜ ViewFits w (length (now vy)) (length (now vu)) (length (now vv)) ⌝ }
-    ensures { λ _. ⌜ now (plane .exit) ≡ auxiliaryAfter layout which size w (now (rects .entry)) (now (vy .entry)) (now (vu .entry)) (now (vv .entry)) (now (plane .entry)) ⌝ }
+    ensures { λ _. ⌜ now (plane .exit) ≡ auxiliaryAfter layout which size w (now (rects .entry))
+        (now (vy .entry)) (now (vu .entry)) (now (vv .entry)) (now (plane .entry)) ⌝ }
 {
     let count = rects.len() / 4;
     let mut i = 0;
@@ -162,7 +166,9 @@ pub fn apply_auxiliary_view(
     vu: &[u8],
     vv: &[u8],
 ) -> lent::Answer
-    ensures { λ r. ⌜ AuxiliaryOutcome layout size w (now (rects .entry)) (now (vy .entry)) (now (vu .entry)) (now (vv .entry)) (now (y .entry)) (now (u .entry)) (now (v .entry)) r (now (y .exit) ∷ now (u .exit) ∷ now (v .exit) ∷ []) ⌝ }
+    ensures { λ r. ⌜ ApplyAuxiliaryViewOutcome layout size w (now (rects .entry))
+        (now (vy .entry)) (now (vu .entry)) (now (vv .entry)) (now (y .entry)) (now (u .entry)) (now (v .entry))
+        r (now (y .exit) ∷ now (u .exit) ∷ now (v .exit) ∷ []) ⌝ }
 {
     let number = rects::apply_number(size, y.len(), u.len(), v.len(), rects.len(), w, vy, vu, vv);
     if number != 0 {

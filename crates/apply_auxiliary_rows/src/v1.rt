@@ -31,7 +31,8 @@ fn v1_odd_row(
     requires { ⌜ AreaFits size (length (now dst)) (row + 1) left right ⌝ }
     requires { ⌜ PlaneFits (lumaOf w) (length (now vy)) ⌝ }
     requires { ⌜ row % 2 ≡ 1 ⌝ }
-    ensures { λ _. ⌜ ((vu vv : List ℕ) → now (dst .exit) ≡ painted (strideOf size) (rowsOf size) (auxiliaryRow V1 w row left right) (auxiliarySource V1 which w (now (vy .entry)) vu vv) (now (dst .entry))) ⌝ }
+    ensures { λ _. ⌜ ((vu vv : List ℕ) → now (dst .exit) ≡ painted (strideOf size) (rowsOf size)
+        (auxiliaryRow V1 w row left right) (auxiliarySource V1 which w (now (vy .entry)) vu vv) (now (dst .entry))) ⌝ }
 {
     let n = layout::upper(row);
     let RowStart::At(_below) = view::row_start(vy.len(), w.luma_stride, w.height as usize, n + 8)
@@ -64,7 +65,8 @@ fn v1_even_row(
     requires { ⌜ AreaFits size (length (now dst)) (row + 1) left right ⌝ }
     requires { ⌜ PlaneFits (chromaOf w) (length (now samples)) ⌝ }
     requires { ⌜ row % 2 ≡ 0 ⌝ }
-    ensures { λ _. ⌜ now (dst .exit) ≡ painted (strideOf size) (rowsOf size) (auxiliaryRow V1 w row left right) (λ r c. sample (now (samples .entry)) (w .«chroma_stride») (r / 2) (c / 2)) (now (dst .entry)) ⌝ }
+    ensures { λ _. ⌜ now (dst .exit) ≡ painted (strideOf size) (rowsOf size) (auxiliaryRow V1 w row left right)
+        (λ r c. sample (now (samples .entry)) (w .«chroma_stride») (r / 2) (c / 2)) (now (dst .entry)) ⌝ }
 {
     let wide = lent::half_up(w.width);
     let high = lent::half_up(w.height);
@@ -95,7 +97,8 @@ pub fn v1_row(
 )
     requires { ⌜ AreaFits size (length (now dst)) (row + 1) left right ⌝ }
     requires { ⌜ ViewFits w (length (now vy)) (length (now vu)) (length (now vv)) ⌝ }
-    ensures { λ _. ⌜ now (dst .exit) ≡ painted (strideOf size) (rowsOf size) (auxiliaryRow V1 w row left right) (auxiliarySource V1 which w (now (vy .entry)) (now (vu .entry)) (now (vv .entry))) (now (dst .entry)) ⌝ }
+    ensures { λ _. ⌜ now (dst .exit) ≡ painted (strideOf size) (rowsOf size) (auxiliaryRow V1 w row left right)
+        (auxiliarySource V1 which w (now (vy .entry)) (now (vu .entry)) (now (vv .entry))) (now (dst .entry)) ⌝ }
 {
     if row % 2 == 1 {
         v1_odd_row(which, dst, size, w, vy, row, left, right);

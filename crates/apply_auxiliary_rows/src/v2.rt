@@ -31,7 +31,8 @@ fn v2_odds(
 )
     requires { ⌜ AreaFits size (length (now dst)) (row + 1) left right ⌝ }
     requires { ⌜ PlaneFits (lumaOf w) (length (now vy)) ⌝ }
-    ensures { λ _. ⌜ ((vu vv : List ℕ) → now (dst .exit) ≡ painted (strideOf size) (rowsOf size) (auxiliaryOnly odd V2 w row left right) (auxiliarySource V2 which w (now (vy .entry)) vu vv) (now (dst .entry))) ⌝ }
+    ensures { λ _. ⌜ ((vu vv : List ℕ) → now (dst .exit) ≡ painted (strideOf size) (rowsOf size)
+        (auxiliaryOnly odd V2 w row left right) (auxiliarySource V2 which w (now (vy .entry)) vu vv) (now (dst .entry))) ⌝ }
 {
     let RowStart::At(start) = view::row_start(vy.len(), w.luma_stride, w.height as usize, row)
     else {
@@ -62,7 +63,9 @@ fn v2_evens(
     requires { ⌜ AreaFits size (length (now dst)) (row + 1) left right ⌝ }
     requires { ⌜ PlaneFits (chromaOf w) (length (now vu)) ⌝ }
     requires { ⌜ PlaneFits (chromaOf w) (length (now vv)) ⌝ }
-    ensures { λ _. ⌜ ((vy : List ℕ) → now (dst .exit) ≡ painted (strideOf size) (rowsOf size) (auxiliaryOnly even V2 w row left right) (auxiliarySource V2 which w vy (now (vu .entry)) (now (vv .entry))) (now (dst .entry))) ⌝ }
+    ensures { λ _. ⌜ ((vy : List ℕ) → now (dst .exit) ≡ painted (strideOf size) (rowsOf size)
+        (auxiliaryOnly even V2 w row left right) (auxiliarySource V2 which w vy (now (vu .entry)) (now (vv .entry)))
+        (now (dst .entry))) ⌝ }
 {
     if row % 2 != 1 {
         return;
@@ -97,7 +100,8 @@ fn v2_together(
     requires { ⌜ AreaFits size (length (now dst)) (row + 1) left right ⌝ }
     requires { ⌜ ViewFits w (length (now vy)) (length (now vu)) (length (now vv)) ⌝ }
     ensures { λ mid. ⌜ (left ≤ mid) × (mid ≤ right) × (mid % 2 ≡ 0) ⌝ }
-    ensures { λ mid. ⌜ now (dst .exit) ≡ painted (strideOf size) (rowsOf size) (auxiliaryRow V2 w row left mid) (auxiliarySource V2 which w (now (vy .entry)) (now (vu .entry)) (now (vv .entry))) (now (dst .entry)) ⌝ }
+    ensures { λ mid. ⌜ now (dst .exit) ≡ painted (strideOf size) (rowsOf size) (auxiliaryRow V2 w row left mid)
+        (auxiliarySource V2 which w (now (vy .entry)) (now (vu .entry)) (now (vv .entry))) (now (dst .entry)) ⌝ }
 {
     if row % 2 == 0 {
         return left;
@@ -137,7 +141,8 @@ pub fn v2_row(
 )
     requires { ⌜ AreaFits size (length (now dst)) (row + 1) left right ⌝ }
     requires { ⌜ ViewFits w (length (now vy)) (length (now vu)) (length (now vv)) ⌝ }
-    ensures { λ _. ⌜ now (dst .exit) ≡ painted (strideOf size) (rowsOf size) (auxiliaryRow V2 w row left right) (auxiliarySource V2 which w (now (vy .entry)) (now (vu .entry)) (now (vv .entry))) (now (dst .entry)) ⌝ }
+    ensures { λ _. ⌜ now (dst .exit) ≡ painted (strideOf size) (rowsOf size) (auxiliaryRow V2 w row left right)
+        (auxiliarySource V2 which w (now (vy .entry)) (now (vu .entry)) (now (vv .entry))) (now (dst .entry)) ⌝ }
 {
     let mid = v2_together(which, dst, size, w, vy, vu, vv, row, left, right);
     v2_odds(which, dst, size, w, vy, row, mid, right);

@@ -20,7 +20,7 @@ use Rattle.apply_main.specs.Rows.{MainRowsFit}
 use Rattle.apply_main.proofs.RowLaws.{upTo-facts, upTo-holds}
 use Rattle.rects.specs.Rects.{area}
 use Rattle.rects.specs.Number.{lentNumberOf}
-use Rattle.apply_main.specs.Main.{mainLuma, mainChroma, lumaAfter, chromaAfter, MainOutcome}
+use Rattle.apply_main.specs.Main.{mainLuma, mainChroma, lumaAfter, chromaAfter, ApplyMainViewOutcome}
 use Rattle.apply_main.specs.Fits.{RectFits}
 use Rattle.lent.proofs.Ends.{answer-none, lent-refused, lent-done}
 use Rattle.rects.proofs.Rects.{area-facts, area-holds}
@@ -96,7 +96,7 @@ rows-ask z is f low ordered inside seen =
 
 module _ (z : Size) (w : View) (rects vy vu vv y u v : List ℕ) where
   pub main-refused : {n : ℕ} → n ≡ lentNumberOf z w rects vy vu vv y u v → (n ≡ 0 → ⊥)
-      → MainOutcome z w rects vy vu vv y u v (record { number = n; count = 0 }) (y ∷ u ∷ v ∷ [])
+      → ApplyMainViewOutcome z w rects vy vu vv y u v (record { number = n; count = 0 }) (y ∷ u ∷ v ∷ [])
   main-refused is f =
       let not-zero : lentNumberOf z w rects vy vu vv y u v ≡ 0 → ⊥ = λ e. f (is ∙ e) in
       record {
@@ -105,7 +105,7 @@ module _ (z : Size) (w : View) (rects vy vu vv y u v : List ℕ) where
       }
 
   pub main-done : {y′ u′ v′ : List ℕ} → lentNumberOf z w rects vy vu vv y u v ≡ 0 → y′ ≡ lumaAfter z w rects vy y → u′ ≡ chromaAfter z w rects vu u → v′ ≡ chromaAfter z w rects vv v
-      → MainOutcome z w rects vy vu vv y u v (record { number = 0; count = 0 }) (y′ ∷ u′ ∷ v′ ∷ [])
+      → ApplyMainViewOutcome z w rects vy vu vv y u v (record { number = 0; count = 0 }) (y′ ∷ u′ ∷ v′ ∷ [])
   main-done is a b c = record {
     answer = answer-none (sym is);
     buffers = λ i. (a ∙ lent-done _ y (lumaAfter z w rects vy y) is) i ∷ (b ∙ lent-done _ u (chromaAfter z w rects vu u) is) i ∷ (c ∙ lent-done _ v (chromaAfter z w rects vv v) is) i ∷ [];

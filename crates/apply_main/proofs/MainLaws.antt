@@ -23,7 +23,7 @@ use Rattle.view.specs.View.{chromaOf}
 use Rattle.view.specs.Alike.{SameSamples, Alike}
 use Rattle.rects.specs.Rects.{Rule, rectAtOf, nth, area, NoArea, taken}
 use Rattle.rects.specs.Number.{lentNumberOf}
-use Rattle.apply_main.specs.Main.{mainLuma, mainChroma, halved, lumaAfter, chromaAfter, mainBuffersOf, MainOutcome}
+use Rattle.apply_main.specs.Main.{mainLuma, mainChroma, halved, lumaAfter, chromaAfter, mainBuffersOf, ApplyMainViewOutcome}
 use Rattle.rects.proofs.Rects.{taken-facts, list-one}
 use Rattle.apply_main.proofs.Main.{mainLuma-facts, mainChroma-facts, mainChroma-holds, chromaBelow, chromaEnd}
 
@@ -122,6 +122,6 @@ module _ {w w′ : View} {vy vu vv vy′ vu′ vv′ : List ℕ} (alike : Alike 
 -- ---- the call ends in one way
 
 pub apply-main-view-unique : (z : Size) (w : View) (rects vy vu vv y u v : List ℕ) (r q : Answer) (rs qs : List (List ℕ))
-    → MainOutcome z w rects vy vu vv y u v r rs → MainOutcome z w rects vy vu vv y u v q qs → (r ≡ q) × (rs ≡ qs)
+    → ApplyMainViewOutcome z w rects vy vu vv y u v r rs → ApplyMainViewOutcome z w rects vy vu vv y u v q qs → (r ≡ q) × (rs ≡ qs)
 apply-main-view-unique z w rects vy vu vv y u v r q rs qs a b =
     outcome-unique (λ (n : ℕ). answerOf n 0) (λ n. mainBuffersOf n z w rects vy vu vv y u v) (lentNumberOf z w rects vy vu vv y u v) r q rs qs a b

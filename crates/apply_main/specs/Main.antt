@@ -7,7 +7,7 @@
 --   lumaAfter z w rects vy y                    Y after an accepted call: each sample that some rectangle takes comes from the view's
 --                                               luma at its own row and column, and every other byte is as before
 --   chromaAfter z w rects samples plane         the same of U or V, with that plane of the view
---   MainOutcome ...                             how the call ends, refusals included
+--   ApplyMainViewOutcome ...                    how the call ends, refusals included; its number, `lentNumberOf`, is said in rects and passed on here
 use Prim.Native.Nat.{ℕ, min}
 use mathlib.Core.Bool.{Bool, _&&_}
 use mathlib.Core.List.{List, [], _∷_}
@@ -20,7 +20,7 @@ use Rattle.picture.specs.declared.Size.{Size}
 use Rattle.picture.specs.Sizes.{strideOf, rowsOf}
 use Rattle.view.specs.declared.View.{View}
 use Rattle.rects.specs.Rects.{Rule, taken, chromaBlockAreaOf, area}
-use Rattle.rects.specs.Number.{lentNumberOf}
+pub use Rattle.rects.specs.Number.{lentNumberOf}
 unfoldable pub use Rattle.apply_main.specs.Rows.{halved}
 
 unfoldable pub mainLuma : Size → View → Rule
@@ -36,11 +36,12 @@ lumaAfter z w rects vy y = painted (strideOf z) (rowsOf z) (taken (mainLuma z w)
 abbrev pub chromaAfter : Size → View → List ℕ → List ℕ → List ℕ → List ℕ
 chromaAfter z w rects samples plane = painted (strideOf z) (rowsOf z) (taken (mainChroma z w) rects) (halved samples (w .«chroma_stride»)) plane
 
--- the number n, count 0, and the three planes
+-- the three planes after a call that answers the number n
 abbrev pub mainBuffersOf : ℕ → Size → View → List ℕ → List ℕ → List ℕ → List ℕ → List ℕ → List ℕ → List ℕ → List (List ℕ)
 mainBuffersOf n z w rects vy vu vv y u v =
     lentAfter n y (lumaAfter z w rects vy y) ∷ lentAfter n u (chromaAfter z w rects vu u) ∷ lentAfter n v (chromaAfter z w rects vv v) ∷ []
 
-abbrev pub MainOutcome : Size → View → List ℕ → List ℕ → List ℕ → List ℕ → List ℕ → List ℕ → List ℕ → Answer → List (List ℕ) → Type 0
-MainOutcome z w rects vy vu vv y u v =
-    Outcome (answerOf (lentNumberOf z w rects vy vu vv y u v) 0) (mainBuffersOf (lentNumberOf z w rects vy vu vv y u v) z w rects vy vu vv y u v)
+abbrev pub ApplyMainViewOutcome : Size → View → List ℕ → List ℕ → List ℕ → List ℕ → List ℕ → List ℕ → List ℕ → Answer → List (List ℕ) → Type 0
+ApplyMainViewOutcome z w rects vy vu vv y u v =
+    let n = lentNumberOf z w rects vy vu vv y u v in
+    Outcome (answerOf n 0) (mainBuffersOf n z w rects vy vu vv y u v)

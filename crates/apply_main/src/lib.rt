@@ -12,7 +12,7 @@ ghost use Rattle.picture.specs.Sizes.{strideOf, rowsOf};
 ghost use Rattle.view.specs.View.{lumaOf, chromaOf};
 ghost use Rattle.apply_main.specs.Rows.{MainRowsFit};
 ghost use Rattle.rects.specs.Rects.{inArea, by};
-ghost use Rattle.apply_main.specs.Main.{mainLuma, mainChroma, halved, lumaAfter, chromaAfter, MainOutcome};
+ghost use Rattle.apply_main.specs.Main.{mainLuma, mainChroma, halved, lumaAfter, chromaAfter, ApplyMainViewOutcome};
 ghost use Rattle.apply_main.specs.Fits.{RectFits};
 use picture::Size;
 use rects::Area;
@@ -22,8 +22,10 @@ use view::View;
 
 // The rows and columns of the area.
 fn luma_rows(y: &mut [u8], size: Size, area: Area, from: Plane, vy: &[u8])
-    requires { ⌜ MainRowsFit size from (length (now y)) (length (now vy)) (area .bottom) (area .left) (area .right) (area .right) ⌝ }
-    ensures { λ _. ⌜ now (y .exit) ≡ painted (strideOf size) (rowsOf size) (upTo (inArea area) (from .height)) (sample (now (vy .entry)) (from .stride)) (now (y .entry)) ⌝ }
+    requires { ⌜ MainRowsFit size from (length (now y)) (length (now vy))
+        (area .bottom) (area .left) (area .right) (area .right) ⌝ }
+    ensures { λ _. ⌜ now (y .exit) ≡ painted (strideOf size) (rowsOf size) (upTo (inArea area) (from .height))
+        (sample (now (vy .entry)) (from .stride)) (now (y .entry)) ⌝ }
 {
     let mut row = area.top;
     while row < area.bottom {
@@ -35,7 +37,8 @@ fn luma_rows(y: &mut [u8], size: Size, area: Area, from: Plane, vy: &[u8])
 // What the view's luma gives in one rectangle.
 fn luma_rect(y: &mut [u8], size: Size, rect: Rect, w: View, vy: &[u8])
     requires { ⌜ RectFits size (lumaOf w) (length (now y)) (length (now vy)) ⌝ }
-    ensures { λ _. ⌜ now (y .exit) ≡ painted (strideOf size) (rowsOf size) (by (mainLuma size w) rect) (sample (now (vy .entry)) (w .«luma_stride»)) (now (y .entry)) ⌝ }
+    ensures { λ _. ⌜ now (y .exit) ≡ painted (strideOf size) (rowsOf size) (by (mainLuma size w) rect)
+        (sample (now (vy .entry)) (w .«luma_stride»)) (now (y .entry)) ⌝ }
 {
     let left = rects::luma_left(rect);
     let right = rects::luma_right(size, rect, w);
@@ -66,9 +69,11 @@ fn luma_rects(y: &mut [u8], size: Size, rects: &[u16], w: View, vy: &[u8])
 
 // The rows and columns of the area.
 fn chroma_rows(plane: &mut [u8], size: Size, area: Area, from: Plane, samples: &[u8])
-    requires { ⌜ MainRowsFit size from (length (now plane)) (length (now samples)) (area .bottom) (area .left) (area .right) (halfUp (area .right)) ⌝ }
+    requires { ⌜ MainRowsFit size from (length (now plane)) (length (now samples))
+        (area .bottom) (area .left) (area .right) (halfUp (area .right)) ⌝ }
     requires { ⌜ area .left % 2 ≡ 0 ⌝ }
-    ensures { λ _. ⌜ now (plane .exit) ≡ painted (strideOf size) (rowsOf size) (upTo (inArea area) (2 * from .height)) (halved (now (samples .entry)) (from .stride)) (now (plane .entry)) ⌝ }
+    ensures { λ _. ⌜ now (plane .exit) ≡ painted (strideOf size) (rowsOf size) (upTo (inArea area) (2 * from .height))
+        (halved (now (samples .entry)) (from .stride)) (now (plane .entry)) ⌝ }
 {
     let mut row = area.top;
     while row < area.bottom {
@@ -80,7 +85,8 @@ fn chroma_rows(plane: &mut [u8], size: Size, area: Area, from: Plane, samples: &
 // What the view's U or V gives in one rectangle.
 fn chroma_rect(plane: &mut [u8], size: Size, rect: Rect, w: View, samples: &[u8])
     requires { ⌜ RectFits size (chromaOf w) (length (now plane)) (length (now samples)) ⌝ }
-    ensures { λ _. ⌜ now (plane .exit) ≡ painted (strideOf size) (rowsOf size) (by (mainChroma size w) rect) (halved (now (samples .entry)) (w .«chroma_stride»)) (now (plane .entry)) ⌝ }
+    ensures { λ _. ⌜ now (plane .exit) ≡ painted (strideOf size) (rowsOf size) (by (mainChroma size w) rect)
+        (halved (now (samples .entry)) (w .«chroma_stride»)) (now (plane .entry)) ⌝ }
 {
     let area = rects::chroma_block_area(size, rect.left, rect.top, rect.right, rect.bottom);
     let right = lent::least(area.right, w.width as usize);
@@ -121,7 +127,9 @@ pub fn apply_main_view(
     vu: &[u8],
     vv: &[u8],
 ) -> lent::Answer
-    ensures { λ r. ⌜ MainOutcome size w (now (rects .entry)) (now (vy .entry)) (now (vu .entry)) (now (vv .entry)) (now (y .entry)) (now (u .entry)) (now (v .entry)) r (now (y .exit) ∷ now (u .exit) ∷ now (v .exit) ∷ []) ⌝ }
+    ensures { λ r. ⌜ ApplyMainViewOutcome size w (now (rects .entry))
+        (now (vy .entry)) (now (vu .entry)) (now (vv .entry)) (now (y .entry)) (now (u .entry)) (now (v .entry))
+        r (now (y .exit) ∷ now (u .exit) ∷ now (v .exit) ∷ []) ⌝ }
 {
     let number = rects::apply_number(size, y.len(), u.len(), v.len(), rects.len(), w, vy, vu, vv);
     if number != 0 {

@@ -22,7 +22,8 @@ pub fn luma_row(
     vy: &[u8],
 )
     requires { ⌜ MainRowsFit size from (length (now y)) (length (now vy)) (row + 1) left right right ⌝ }
-    ensures { λ _. ⌜ now (y .exit) ≡ painted (strideOf size) (rowsOf size) (upTo (rowPart every row left right) (from .height)) (sample (now (vy .entry)) (from .stride)) (now (y .entry)) ⌝ }
+    ensures { λ _. ⌜ now (y .exit) ≡ painted (strideOf size) (rowsOf size)
+        (upTo (rowPart every row left right) (from .height)) (sample (now (vy .entry)) (from .stride)) (now (y .entry)) ⌝ }
 {
     let found = view::row_start(vy.len(), from.stride, from.height, row);
     let RowStart::At(start) = found else {
@@ -47,7 +48,9 @@ pub fn chroma_row(
 )
     requires { ⌜ MainRowsFit size from (length (now plane)) (length (now samples)) (row + 1) left right (halfUp right) ⌝ }
     requires { ⌜ left % 2 ≡ 0 ⌝ }
-    ensures { λ _. ⌜ now (plane .exit) ≡ painted (strideOf size) (rowsOf size) (upTo (rowPart every row left right) (2 * from .height)) (halved (now (samples .entry)) (from .stride)) (now (plane .entry)) ⌝ }
+    ensures { λ _. ⌜ now (plane .exit) ≡ painted (strideOf size) (rowsOf size)
+        (upTo (rowPart every row left right) (2 * from .height)) (halved (now (samples .entry)) (from .stride))
+        (now (plane .entry)) ⌝ }
 {
     let found = view::row_start(samples.len(), from.stride, from.height, row / 2);
     let RowStart::At(start) = found else {

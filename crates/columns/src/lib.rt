@@ -24,7 +24,8 @@ pub fn put_odds(
     right: usize,
 )
     requires { ⌜ OddsFit (length (now dst)) stride rows (length (now src)) at row left right ⌝ }
-    ensures { λ _. ⌜ now (dst .exit) ≡ painted stride rows (rowPart odd row left right) (λ _ c. getD (now (src .entry)) (at + c / 2) 0) (now (dst .entry)) ⌝ }
+    ensures { λ _. ⌜ now (dst .exit) ≡ painted stride rows (rowPart odd row left right)
+        (λ _ c. getD (now (src .entry)) (at + c / 2) 0) (now (dst .entry)) ⌝ }
 {
     let line = row * stride;
     let mut col = left;
@@ -51,7 +52,8 @@ pub fn put_evens(
     right: usize,
 )
     requires { ⌜ EvensFit (length (now dst)) stride rows (length (now u)) (length (now v)) at row left right ⌝ }
-    ensures { λ _. ⌜ now (dst .exit) ≡ painted stride rows (rowPart even row left right) (λ _ c. fourth (now (u .entry)) (now (v .entry)) at c) (now (dst .entry)) ⌝ }
+    ensures { λ _. ⌜ now (dst .exit) ≡ painted stride rows (rowPart even row left right)
+        (λ _ c. fourth (now (u .entry)) (now (v .entry)) at c) (now (dst .entry)) ⌝ }
 {
     let line = row * stride;
     let mut col = left;
@@ -86,7 +88,9 @@ pub fn put_full(
 )
     requires { ⌜ OddsFit (length (now dst)) stride rows (length (now src)) luma row left right ⌝ }
     requires { ⌜ EvensFit (length (now dst)) stride rows (length (now u)) (length (now v)) at row left right ⌝ }
-    ensures { λ _. ⌜ now (dst .exit) ≡ painted stride rows (rowPart every row left right) (λ _ c. cond (odd c) (getD (now (src .entry)) (luma + c / 2) 0) (fourth (now (u .entry)) (now (v .entry)) at c)) (now (dst .entry)) ⌝ }
+    ensures { λ _. ⌜ now (dst .exit) ≡ painted stride rows (rowPart every row left right)
+        (λ _ c. cond (odd c) (getD (now (src .entry)) (luma + c / 2) 0) (fourth (now (u .entry)) (now (v .entry)) at c))
+        (now (dst .entry)) ⌝ }
 {
     let line = row * stride;
     let mut col = left;
@@ -117,7 +121,8 @@ pub fn put_copy(
     right: usize,
 )
     requires { ⌜ CopyFits (length (now dst)) stride rows (length (now src)) at row left right ⌝ }
-    ensures { λ _. ⌜ now (dst .exit) ≡ painted stride rows (rowPart every row left right) (λ _ c. getD (now (src .entry)) (at + c) 0) (now (dst .entry)) ⌝ }
+    ensures { λ _. ⌜ now (dst .exit) ≡ painted stride rows
+        (rowPart every row left right) (λ _ c. getD (now (src .entry)) (at + c) 0) (now (dst .entry)) ⌝ }
 {
     let line = row * stride;
     lent::copy(

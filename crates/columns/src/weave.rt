@@ -15,7 +15,8 @@ pub fn seconds(dst: &mut [u8], src: &[u8], first: usize, n: usize)
     requires { ⌜ n ≤ length (now dst) ⌝ }
     requires { ⌜ 2 * n ≤ length (now src) ⌝ }
     requires { ⌜ first < 2 ⌝ }
-    ensures { λ _. ⌜ now (dst .exit) ≡ paint (λ k. ltb k n) (λ k. getD (now (src .entry)) (2 * k + first) 0) (now (dst .entry)) ⌝ }
+    ensures { λ _. ⌜ now (dst .exit) ≡ paint (λ k. ltb k n) (λ k. getD (now (src .entry)) (2 * k + first) 0)
+        (now (dst .entry)) ⌝ }
 {
     let mut i = 0;
     while i < n {
@@ -29,7 +30,8 @@ fn weave(dst: &mut [u8], evens: &[u8], odds: &[u8], n: usize)
     requires { ⌜ 2 * n ≤ length (now dst) ⌝ }
     requires { ⌜ n ≤ length (now evens) ⌝ }
     requires { ⌜ n ≤ length (now odds) ⌝ }
-    ensures { λ _. ⌜ now (dst .exit) ≡ paint (λ k. ltb k (2 * n)) (woven (now (evens .entry)) (now (odds .entry))) (now (dst .entry)) ⌝ }
+    ensures { λ _. ⌜ now (dst .exit) ≡ paint (λ k. ltb k (2 * n)) (woven (now (evens .entry)) (now (odds .entry)))
+        (now (dst .entry)) ⌝ }
 {
     let mut i = 0;
     while i < n {
@@ -87,7 +89,8 @@ pub fn even_part(dst: &mut [u8], u: &[u8], v: &[u8], lead: usize)
     requires { ⌜ lead < 2 ⌝ }
     requires { ⌜ (lead + length (now dst) / 2 + 1) / 2 ≤ length (now u) ⌝ }
     requires { ⌜ (lead + length (now dst) / 2 + 1) / 2 ≤ length (now v) ⌝ }
-    ensures { λ _. ⌜ now (dst .exit) ≡ paint even (λ k. woven (now (u .entry)) (now (v .entry)) (lead + k / 2)) (now (dst .entry)) ⌝ }
+    ensures { λ _. ⌜ now (dst .exit) ≡ paint even
+        (λ k. woven (now (u .entry)) (now (v .entry)) (lead + k / 2)) (now (dst .entry)) ⌝ }
 {
     let mut turns = [0u8; 128];
     let mut kept = [0u8; 128];
@@ -105,7 +108,9 @@ pub fn full_part(dst: &mut [u8], from: &[u8], u: &[u8], v: &[u8], lead: usize)
     requires { ⌜ (lead + length (now dst) / 2 + 1) / 2 ≤ length (now u) ⌝ }
     requires { ⌜ (lead + length (now dst) / 2 + 1) / 2 ≤ length (now v) ⌝ }
     requires { ⌜ length (now dst) ≤ 2 * length (now from) ⌝ }
-    ensures { λ _. ⌜ now (dst .exit) ≡ paint every (λ k. cond (odd k) (getD (now (from .entry)) (k / 2) 0) (woven (now (u .entry)) (now (v .entry)) (lead + k / 2))) (now (dst .entry)) ⌝ }
+    ensures { λ _. ⌜ now (dst .exit) ≡ paint every
+        (λ k. cond (odd k) (getD (now (from .entry)) (k / 2) 0) (woven (now (u .entry)) (now (v .entry)) (lead + k / 2)))
+        (now (dst .entry)) ⌝ }
 {
     let mut evens = [0u8; 128];
     let n = dst.len() / 2;

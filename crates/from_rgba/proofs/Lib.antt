@@ -1,7 +1,7 @@
 -- The laws of `from_rgba`.
 -- The laws of averages: a pair of rows block by block, a plane pair by pair.
 -- The laws of the padding and of the converted pixels.
-pub mod FromOutcome
+pub mod FromRgbaOutcome
 pub mod ManyRows
 pub mod Blocks
 pub mod PartRows

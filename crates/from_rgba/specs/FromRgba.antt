@@ -9,13 +9,15 @@
 --   rgbaShort z n          refusal 2: n bytes are fewer than width x height x 4
 --   fromNumberOf z n ny nu nv    the number that `from_rgba` answers, n being the input's length, ny, nu and nv the planes'
 --   fromBuffersOf px z y u v     what the three lent buffers hold after `from_rgba`
+--   FromRgbaOutcome px z y u v   how `from_rgba` ends, refusals included
 use Prim.Native.Nat.{ℕ, _+_, _*_, _<_}
 use mathlib.Core.Path.{_≡_}
 use mathlib.Core.Bool.{Bool, cond}
 use mathlib.Core.List.{List, [], _∷_}
 use lib.Dec.{ltb}
 use lib.ListN.{length, getD}
-use Rattle.lent.specs.Outcome.{lentAfter}
+use Rattle.lent.specs.declared.Answer.{Answer}
+use Rattle.lent.specs.Outcome.{Outcome, answerOf, lentAfter}
 use Rattle.lent.specs.Refusal.{refusal}
 use Rattle.colour.specs.declared.Yuv.{Yuv}
 use Rattle.from_rgba.specs.Averaged.{averaged}
@@ -56,3 +58,7 @@ fromBuffersOf px z y u v =
     ∷ lentAfter n u (planeOf z (averaged (chromaUPlane z px)) u)
     ∷ lentAfter n v (planeOf z (averaged (chromaVPlane z px)) v)
     ∷ []
+
+abbrev pub FromRgbaOutcome : List ℕ → Size → List ℕ → List ℕ → List ℕ → Answer → List (List ℕ) → Type 0
+FromRgbaOutcome px z y u v =
+    Outcome (answerOf (fromNumberOf z (length px) (length y) (length u) (length v)) 0) (fromBuffersOf px z y u v)

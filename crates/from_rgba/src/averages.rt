@@ -16,7 +16,8 @@ ghost use Rattle.from_rgba.specs.Averaged.{averaged};
 fn block_average(plane: &[u8], at: usize, below: usize) -> u8
     requires { ⌜ at + 2 ≤ length (now plane) ⌝ }
     requires { ⌜ below + 2 ≤ length (now plane) ⌝ }
-    ensures { λ r. ⌜ r ≡ averageOf (getD (now (plane .entry)) at 0 ∷ getD (now (plane .entry)) (at + 1) 0 ∷ getD (now (plane .entry)) below 0 ∷ getD (now (plane .entry)) (below + 1) 0 ∷ []) ⌝ }
+    ensures { λ r. ⌜ r ≡ averageOf (getD (now (plane .entry)) at 0 ∷ getD (now (plane .entry)) (at + 1) 0
+        ∷ getD (now (plane .entry)) below 0 ∷ getD (now (plane .entry)) (below + 1) 0 ∷ []) ⌝ }
 {
     let samples = [plane[at], plane[at + 1], plane[below], plane[below + 1]];
     colour::average(colour::Block { samples })
@@ -26,7 +27,8 @@ fn block_average(plane: &[u8], at: usize, below: usize) -> u8
 fn average_pair(pair: &mut [u8], stride: usize)
     requires { ⌜ 2 * stride ≤ length (now pair) ⌝ }
     requires { ⌜ stride % 2 ≡ 0 ⌝ }
-    ensures { λ _. ⌜ now (pair .exit) ≡ painted stride 2 whole (averaged (sample (now (pair .entry)) stride)) (now (pair .entry)) ⌝ }
+    ensures { λ _. ⌜ now (pair .exit) ≡ painted stride 2 whole (averaged (sample (now (pair .entry)) stride))
+        (now (pair .entry)) ⌝ }
 {
     let blocks = stride / 2;
     let mut i = 0;
@@ -43,7 +45,8 @@ pub fn average_plane(plane: &mut [u8], stride: usize, rows: usize)
     requires { ⌜ rows * stride ≤ length (now plane) ⌝ }
     requires { ⌜ stride % 2 ≡ 0 ⌝ }
     requires { ⌜ rows % 2 ≡ 0 ⌝ }
-    ensures { λ _. ⌜ now (plane .exit) ≡ painted stride rows whole (averaged (sample (now (plane .entry)) stride)) (now (plane .entry)) ⌝ }
+    ensures { λ _. ⌜ now (plane .exit) ≡ painted stride rows whole (averaged (sample (now (plane .entry)) stride))
+        (now (plane .entry)) ⌝ }
 {
     let mut row = 0;
     while row < rows {

@@ -8,9 +8,7 @@ pub mod rows; // the three planes before the average
 
 ghost use mathlib.Core.Path.{_≡_};
 ghost use mathlib.Core.List.{[], _∷_};
-ghost use lib.ListN.{length};
-ghost use Rattle.lent.specs.Outcome.{Outcome, answerOf};
-ghost use Rattle.from_rgba.specs.FromRgba.{rgbaShort, fromNumberOf, fromBuffersOf};
+ghost use Rattle.from_rgba.specs.FromRgba.{rgbaShort, fromNumberOf, FromRgbaOutcome};
 use picture::Size;
 
 // Refusal 2: n bytes of RGBA are fewer than width x height x 4.
@@ -37,7 +35,8 @@ fn from_number(size: Size, n: usize, ny: usize, nu: usize, nv: usize) -> u32
 
 // A picture from width x height pixels of four bytes; what follows them, and their alpha, is ignored. Ports `Yuv444Frame::from_rgba`.
 pub fn from_rgba(rgba: &[u8], size: Size, y: &mut [u8], u: &mut [u8], v: &mut [u8]) -> lent::Answer
-    ensures { λ r. ⌜ Outcome (answerOf (fromNumberOf size (length (now (rgba .entry))) (length (now (y .entry))) (length (now (u .entry))) (length (now (v .entry)))) 0) (fromBuffersOf (now (rgba .entry)) size (now (y .entry)) (now (u .entry)) (now (v .entry))) r (now (y .exit) ∷ now (u .exit) ∷ now (v .exit) ∷ []) ⌝ }
+    ensures { λ r. ⌜ FromRgbaOutcome (now (rgba .entry)) size (now (y .entry)) (now (u .entry)) (now (v .entry))
+        r (now (y .exit) ∷ now (u .exit) ∷ now (v .exit) ∷ []) ⌝ }
 {
     let number = from_number(size, rgba.len(), y.len(), u.len(), v.len());
     if number != 0 {

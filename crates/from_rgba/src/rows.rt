@@ -33,7 +33,8 @@ fn padding_from(width: u16, height: u16, row: usize) -> usize
 // All of the plane but the picture's own rows and columns holds `value`.
 fn pad_plane(plane: &mut [u8], width: u16, height: u16, value: u8)
     requires { ⌜ roundUp 16 height * roundUp 16 width ≤ length (now plane) ⌝ }
-    ensures { λ _. ⌜ now (plane .exit) ≡ painted (roundUp 16 width) (roundUp 16 height) (λ r c. not (inside width height r c)) (λ r c. value) (now (plane .entry)) ⌝ }
+    ensures { λ _. ⌜ now (plane .exit) ≡ painted (roundUp 16 width) (roundUp 16 height)
+        (λ r c. not (inside width height r c)) (λ r c. value) (now (plane .entry)) ⌝ }
 {
     let stride = lent::round_up_16(width);
     let rows = lent::round_up_16(height);
@@ -78,9 +79,12 @@ fn forward_line(
     v: &mut [u8],
 )
     requires { ⌜ LineFits (length (now rgba)) (length (now y)) (length (now u)) (length (now v)) at n line ⌝ }
-    ensures y { λ _. ⌜ now (y .exit) ≡ linePainted line n (λ k. colourAt (lineOf (now (rgba .entry)) at n) k .y) (now (y .entry)) ⌝ }
-    ensures u { λ _. ⌜ now (u .exit) ≡ linePainted line n (λ k. colourAt (lineOf (now (rgba .entry)) at n) k .u) (now (u .entry)) ⌝ }
-    ensures v { λ _. ⌜ now (v .exit) ≡ linePainted line n (λ k. colourAt (lineOf (now (rgba .entry)) at n) k .v) (now (v .entry)) ⌝ }
+    ensures y { λ _. ⌜ now (y .exit) ≡ linePainted line n (λ k. colourAt (lineOf (now (rgba .entry)) at n) k .y)
+        (now (y .entry)) ⌝ }
+    ensures u { λ _. ⌜ now (u .exit) ≡ linePainted line n (λ k. colourAt (lineOf (now (rgba .entry)) at n) k .u)
+        (now (u .entry)) ⌝ }
+    ensures v { λ _. ⌜ now (v .exit) ≡ linePainted line n (λ k. colourAt (lineOf (now (rgba .entry)) at n) k .v)
+        (now (v .entry)) ⌝ }
 {
     let end = line + n;
     forward_row(
@@ -94,9 +98,12 @@ fn forward_line(
 // The picture's own rows and columns of the three planes hold the converted pixels.
 fn forward_rows(rgba: &[u8], width: u16, height: u16, y: &mut [u8], u: &mut [u8], v: &mut [u8])
     requires { ⌜ RoomFor width height (length (now rgba)) (length (now y)) (length (now u)) (length (now v)) ⌝ }
-    ensures y { λ _. ⌜ now (y .exit) ≡ painted (roundUp 16 width) (roundUp 16 height) (inside width height) (λ r c. inputAt (now (rgba .entry)) width r c .y) (now (y .entry)) ⌝ }
-    ensures u { λ _. ⌜ now (u .exit) ≡ painted (roundUp 16 width) (roundUp 16 height) (inside width height) (λ r c. inputAt (now (rgba .entry)) width r c .u) (now (u .entry)) ⌝ }
-    ensures v { λ _. ⌜ now (v .exit) ≡ painted (roundUp 16 width) (roundUp 16 height) (inside width height) (λ r c. inputAt (now (rgba .entry)) width r c .v) (now (v .entry)) ⌝ }
+    ensures y { λ _. ⌜ now (y .exit) ≡ painted (roundUp 16 width) (roundUp 16 height) (inside width height)
+        (λ r c. inputAt (now (rgba .entry)) width r c .y) (now (y .entry)) ⌝ }
+    ensures u { λ _. ⌜ now (u .exit) ≡ painted (roundUp 16 width) (roundUp 16 height) (inside width height)
+        (λ r c. inputAt (now (rgba .entry)) width r c .u) (now (u .entry)) ⌝ }
+    ensures v { λ _. ⌜ now (v .exit) ≡ painted (roundUp 16 width) (roundUp 16 height) (inside width height)
+        (λ r c. inputAt (now (rgba .entry)) width r c .v) (now (v .entry)) ⌝ }
 {
     let stride = lent::round_up_16(width);
     let n = width as usize;
@@ -119,9 +126,12 @@ pub fn convert_planes(
     v: &mut [u8],
 )
     requires { ⌜ RoomFor width height (length (now rgba)) (length (now y)) (length (now u)) (length (now v)) ⌝ }
-    ensures y { λ _. ⌜ now (y .exit) ≡ painted (roundUp 16 width) (roundUp 16 height) whole (λ r c. cond (inside width height r c) (inputAt (now (rgba .entry)) width r c .y) 0) (now (y .entry)) ⌝ }
-    ensures u { λ _. ⌜ now (u .exit) ≡ painted (roundUp 16 width) (roundUp 16 height) whole (λ r c. cond (inside width height r c) (inputAt (now (rgba .entry)) width r c .u) 128) (now (u .entry)) ⌝ }
-    ensures v { λ _. ⌜ now (v .exit) ≡ painted (roundUp 16 width) (roundUp 16 height) whole (λ r c. cond (inside width height r c) (inputAt (now (rgba .entry)) width r c .v) 128) (now (v .entry)) ⌝ }
+    ensures y { λ _. ⌜ now (y .exit) ≡ painted (roundUp 16 width) (roundUp 16 height) whole
+        (λ r c. cond (inside width height r c) (inputAt (now (rgba .entry)) width r c .y) 0) (now (y .entry)) ⌝ }
+    ensures u { λ _. ⌜ now (u .exit) ≡ painted (roundUp 16 width) (roundUp 16 height) whole
+        (λ r c. cond (inside width height r c) (inputAt (now (rgba .entry)) width r c .u) 128) (now (u .entry)) ⌝ }
+    ensures v { λ _. ⌜ now (v .exit) ≡ painted (roundUp 16 width) (roundUp 16 height) whole
+        (λ r c. cond (inside width height r c) (inputAt (now (rgba .entry)) width r c .v) 128) (now (v .entry)) ⌝ }
 {
     pad_plane(y, width, height, 0);
     pad_plane(u, width, height, 128);

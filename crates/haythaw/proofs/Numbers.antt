@@ -5,5 +5,5 @@ use mathlib.Core.List.{List}
 use Rattle.lent.specs.declared.Answer.{Answer}
 use Rattle.lent.specs.Outcome.{Outcome, answerOf}
 
-pub number-alone : {n : ℕ} {bs rs : List (List ℕ)} {r : Answer} → Outcome (answerOf n 0) bs r rs → Outcome (answerOf n 0) bs (answerOf (r .number) 0) rs
-number-alone x = record { answer = λ i. answerOf (x .answer i .number) 0; buffers = x .buffers }
+pub number-alone : {n : ℕ} {bs rs : List (List ℕ)} {r : Answer} → Outcome (answerOf n 0) bs r rs → Outcome n bs (r .number) rs
+number-alone x = record { answer = λ i. x .answer i .number; buffers = x .buffers }

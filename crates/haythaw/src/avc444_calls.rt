@@ -3,7 +3,7 @@
 ghost use mathlib.Core.List.{[], _∷_};
 ghost use Rattle.lent.specs.Outcome.{Outcome};
 ghost use Rattle.wire_read.specs.Reading.{readOf};
-ghost use Rattle.wire_read.specs.Parts.{CopyOutcome, rectangleAtOf, pairAtOf};
+ghost use Rattle.wire_read.specs.Parts.{CopyRectsOutcome, rectangleAtOf, pairAtOf};
 ghost use Rattle.wire_read.specs.declared.parts.Which.the-variants.{Luma, Chroma};
 ghost use Rattle.wire_write.specs.Writing.{given, WriteOutcome};
 use wire_read::parts::Which;
@@ -57,7 +57,7 @@ pub extern "C" fn haythaw_avc444_chroma_pair(payload: &[u8], i: usize) -> wire_r
 // The rectangles of the luma stream as an apply call takes them, and how many numbers were written. 0, 9, 8, 10 or 6.
 #[no_mangle]
 pub extern "C" fn haythaw_avc444_luma_rects(payload: &[u8], out: &mut [u16]) -> lent::Answer
-    ensures { λ r. ⌜ CopyOutcome (now (payload .entry)) Luma (now (out .entry)) r (now (out .exit) ∷ []) ⌝ }
+    ensures { λ r. ⌜ CopyRectsOutcome (now (payload .entry)) Luma (now (out .entry)) r (now (out .exit) ∷ []) ⌝ }
 {
     wire_read::parts::copy_rects(payload, Which::Luma, out)
 }
@@ -65,7 +65,7 @@ pub extern "C" fn haythaw_avc444_luma_rects(payload: &[u8], out: &mut [u16]) -> 
 // The rectangles of the chroma stream as an apply call takes them, and how many numbers were written. 0, 9, 8, 10 or 6.
 #[no_mangle]
 pub extern "C" fn haythaw_avc444_chroma_rects(payload: &[u8], out: &mut [u16]) -> lent::Answer
-    ensures { λ r. ⌜ CopyOutcome (now (payload .entry)) Chroma (now (out .entry)) r (now (out .exit) ∷ []) ⌝ }
+    ensures { λ r. ⌜ CopyRectsOutcome (now (payload .entry)) Chroma (now (out .entry)) r (now (out .exit) ∷ []) ⌝ }
 {
     wire_read::parts::copy_rects(payload, Which::Chroma, out)
 }

@@ -1,9 +1,7 @@
 // Views go into a picture, within the rectangles of a list.
 ghost use mathlib.Core.List.{[], _∷_};
-ghost use Rattle.lent.specs.Outcome.{answerOf};
 ghost use Rattle.layout.specs.declared.Layout.the-variants.{V1, V2};
-ghost use Rattle.apply_main.specs.Main.{MainOutcome};
-ghost use Rattle.apply_auxiliary.specs.Auxiliary.{AuxiliaryOutcome};
+ghost use Rattle.haythaw.specs.Apply.{HaythawApplyMainViewOutcome, HaythawApplyAuxiliaryOutcome};
 ghost use Rattle.haythaw.specs.Sizes.{sizesOf, sizeOf};
 use layout::Layout;
 use picture::Size;
@@ -26,10 +24,10 @@ pub extern "C" fn haythaw_apply_main_view(
     view_u: &[u8],
     view_v: &[u8],
 ) -> u32
-    ensures { λ r. ⌜ MainOutcome (sizeOf width height) (sizesOf «view_width» «view_height» «luma_stride» «chroma_stride»)
+    ensures { λ r. ⌜ HaythawApplyMainViewOutcome
+        (sizeOf width height) (sizesOf «view_width» «view_height» «luma_stride» «chroma_stride»)
         (now (rects .entry)) (now («view_y» .entry)) (now («view_u» .entry)) (now («view_v» .entry))
-        (now (y .entry)) (now (u .entry)) (now (v .entry))
-        (answerOf r 0) (now (y .exit) ∷ now (u .exit) ∷ now (v .exit) ∷ []) ⌝ }
+        (now (y .entry)) (now (u .entry)) (now (v .entry)) r (now (y .exit) ∷ now (u .exit) ∷ now (v .exit) ∷ []) ⌝ }
 {
     let w = View {
         width: view_width,
@@ -59,10 +57,10 @@ pub extern "C" fn haythaw_apply_auxiliary_v1(
     view_u: &[u8],
     view_v: &[u8],
 ) -> u32
-    ensures { λ r. ⌜ AuxiliaryOutcome V1 (sizeOf width height) (sizesOf «view_width» «view_height» «luma_stride» «chroma_stride»)
+    ensures { λ r. ⌜ HaythawApplyAuxiliaryOutcome
+        V1 (sizeOf width height) (sizesOf «view_width» «view_height» «luma_stride» «chroma_stride»)
         (now (rects .entry)) (now («view_y» .entry)) (now («view_u» .entry)) (now («view_v» .entry))
-        (now (y .entry)) (now (u .entry)) (now (v .entry))
-        (answerOf r 0) (now (y .exit) ∷ now (u .exit) ∷ now (v .exit) ∷ []) ⌝ }
+        (now (y .entry)) (now (u .entry)) (now (v .entry)) r (now (y .exit) ∷ now (u .exit) ∷ now (v .exit) ∷ []) ⌝ }
 {
     let w = View {
         width: view_width,
@@ -103,10 +101,10 @@ pub extern "C" fn haythaw_apply_auxiliary_v2(
     view_u: &[u8],
     view_v: &[u8],
 ) -> u32
-    ensures { λ r. ⌜ AuxiliaryOutcome V2 (sizeOf width height) (sizesOf «view_width» «view_height» «luma_stride» «chroma_stride»)
+    ensures { λ r. ⌜ HaythawApplyAuxiliaryOutcome
+        V2 (sizeOf width height) (sizesOf «view_width» «view_height» «luma_stride» «chroma_stride»)
         (now (rects .entry)) (now («view_y» .entry)) (now («view_u» .entry)) (now («view_v» .entry))
-        (now (y .entry)) (now (u .entry)) (now (v .entry))
-        (answerOf r 0) (now (y .exit) ∷ now (u .exit) ∷ now (v .exit) ∷ []) ⌝ }
+        (now (y .entry)) (now (u .entry)) (now (v .entry)) r (now (y .exit) ∷ now (u .exit) ∷ now (v .exit) ∷ []) ⌝ }
 {
     let w = View {
         width: view_width,

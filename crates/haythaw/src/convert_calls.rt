@@ -1,10 +1,8 @@
 // Both conversions to RGBA: of a rectangle of a picture, and of a view.
 ghost use mathlib.Core.List.{[], _∷_};
-ghost use lib.ListN.{length};
 ghost use Rattle.colour.specs.Colour.{reverseOf};
-ghost use Rattle.lent.specs.Outcome.{Outcome, answerOf, lentAfter};
-ghost use Rattle.to_rgba.specs.Picture.{toRgbaCountOf, toRgbaNumberOf, toRgbaOf};
-ghost use Rattle.to_rgba.specs.View.{viewToRgbaCountOf, viewToRgbaNumberOf, viewToRgbaOf};
+ghost use Rattle.to_rgba.specs.Picture.{ToRgbaOutcome};
+ghost use Rattle.to_rgba.specs.View.{ViewToRgbaOutcome};
 ghost use Rattle.haythaw.specs.Sizes.{sizesOf, sizeOf, rectOf};
 use picture::Size;
 use to_rgba::Rect;
@@ -24,14 +22,8 @@ pub extern "C" fn haythaw_to_rgba(
     bottom: u16,
     out: &mut [u8],
 ) -> lent::Answer
-    ensures { λ r. ⌜ Outcome (answerOf (toRgbaNumberOf (sizeOf width height) (toRgbaCountOf (sizeOf width height) (rectOf left top right bottom))
-        (length (now (y .entry))) (length (now (u .entry))) (length (now (v .entry))) (length (now (out .entry))))
-        (toRgbaCountOf (sizeOf width height) (rectOf left top right bottom)))
-        (lentAfter (toRgbaNumberOf (sizeOf width height) (toRgbaCountOf (sizeOf width height) (rectOf left top right bottom))
-        (length (now (y .entry))) (length (now (u .entry))) (length (now (v .entry))) (length (now (out .entry))))
-        (now (out .entry))
-        (toRgbaOf (sizeOf width height) (now (y .entry)) (now (u .entry)) (now (v .entry)) (rectOf left top right bottom) (now (out .entry))) ∷ [])
-        r (now (out .exit) ∷ []) ⌝ }
+    ensures { λ r. ⌜ ToRgbaOutcome (sizeOf width height) (now (y .entry)) (now (u .entry)) (now (v .entry))
+        (rectOf left top right bottom) (now (out .entry)) r (now (out .exit) ∷ []) ⌝ }
 {
     let rect = Rect {
         left,
@@ -54,17 +46,8 @@ pub extern "C" fn haythaw_view_to_rgba(
     view_v: &[u8],
     out: &mut [u8],
 ) -> lent::Answer
-    ensures { λ r. ⌜ Outcome (answerOf (viewToRgbaNumberOf (sizesOf «view_width» «view_height» «luma_stride» «chroma_stride»)
-        (viewToRgbaCountOf (sizesOf «view_width» «view_height» «luma_stride» «chroma_stride»))
-        (length (now («view_y» .entry))) (length (now («view_u» .entry))) (length (now («view_v» .entry))) (length (now (out .entry))))
-        (viewToRgbaCountOf (sizesOf «view_width» «view_height» «luma_stride» «chroma_stride»)))
-        (lentAfter (viewToRgbaNumberOf (sizesOf «view_width» «view_height» «luma_stride» «chroma_stride»)
-        (viewToRgbaCountOf (sizesOf «view_width» «view_height» «luma_stride» «chroma_stride»))
-        (length (now («view_y» .entry))) (length (now («view_u» .entry))) (length (now («view_v» .entry))) (length (now (out .entry))))
-        (now (out .entry))
-        (viewToRgbaOf reverseOf (sizesOf «view_width» «view_height» «luma_stride» «chroma_stride»)
-        (now («view_y» .entry)) (now («view_u» .entry)) (now («view_v» .entry)) (now (out .entry))) ∷ [])
-        r (now (out .exit) ∷ []) ⌝ }
+    ensures { λ r. ⌜ ViewToRgbaOutcome reverseOf (sizesOf «view_width» «view_height» «luma_stride» «chroma_stride»)
+        (now («view_y» .entry)) (now («view_u» .entry)) (now («view_v» .entry)) (now (out .entry)) r (now (out .exit) ∷ []) ⌝ }
 {
     let w = View {
         width: view_width,

@@ -2,7 +2,7 @@
 ghost use mathlib.Core.Path.{_≡_};
 ghost use mathlib.Core.List.{[], _∷_};
 ghost use lib.ListN.{length};
-ghost use Rattle.lent.specs.Outcome.{Outcome, answerOf};
+ghost use Rattle.lent.specs.Outcome.{Outcome};
 ghost use Rattle.picture.specs.Sizes.{allocationSizeOf};
 ghost use Rattle.picture.specs.New.{newNumberOf, newBuffersOf};
 ghost use Rattle.from_rgba.specs.FromRgba.{fromNumberOf, fromBuffersOf};
@@ -26,9 +26,10 @@ pub extern "C" fn haythaw_new(
     u: &mut [u8],
     v: &mut [u8],
 ) -> u32
-    ensures { λ r. ⌜ Outcome (answerOf (newNumberOf (sizeOf width height) (length (now (y .entry))) (length (now (u .entry))) (length (now (v .entry)))) 0)
+    ensures { λ r. ⌜ Outcome (newNumberOf (sizeOf width height)
+        (length (now (y .entry))) (length (now (u .entry))) (length (now (v .entry))))
         (newBuffersOf (sizeOf width height) (now (y .entry)) (now (u .entry)) (now (v .entry)))
-        (answerOf r 0) (now (y .exit) ∷ now (u .exit) ∷ now (v .exit) ∷ []) ⌝ }
+        r (now (y .exit) ∷ now (u .exit) ∷ now (v .exit) ∷ []) ⌝ }
 {
     picture::new(Size { width, height }, y, u, v).number
 }
@@ -43,10 +44,10 @@ pub extern "C" fn haythaw_from_rgba(
     u: &mut [u8],
     v: &mut [u8],
 ) -> u32
-    ensures { λ r. ⌜ Outcome (answerOf (fromNumberOf (sizeOf width height) (length (now (rgba .entry)))
-        (length (now (y .entry))) (length (now (u .entry))) (length (now (v .entry)))) 0)
+    ensures { λ r. ⌜ Outcome (fromNumberOf (sizeOf width height) (length (now (rgba .entry)))
+        (length (now (y .entry))) (length (now (u .entry))) (length (now (v .entry))))
         (fromBuffersOf (now (rgba .entry)) (sizeOf width height) (now (y .entry)) (now (u .entry)) (now (v .entry)))
-        (answerOf r 0) (now (y .exit) ∷ now (u .exit) ∷ now (v .exit) ∷ []) ⌝ }
+        r (now (y .exit) ∷ now (u .exit) ∷ now (v .exit) ∷ []) ⌝ }
 {
     from_rgba::from_rgba(rgba, Size { width, height }, y, u, v).number
 }

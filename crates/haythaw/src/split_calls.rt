@@ -1,7 +1,7 @@
 // Both views of a picture.
 ghost use mathlib.Core.List.{[], _∷_};
 ghost use Rattle.layout.specs.declared.Layout.the-variants.{V1, V2};
-ghost use Rattle.split.specs.Split.{planes, SplitEnds};
+ghost use Rattle.split.specs.Split.{atEntry, SplitOutcome};
 ghost use Rattle.haythaw.specs.Sizes.{sizeOf};
 use layout::Layout;
 use picture::Size;
@@ -22,9 +22,8 @@ pub extern "C" fn haythaw_split_v1(
     auxiliary_u: &mut [u8],
     auxiliary_v: &mut [u8],
 ) -> Views
-    ensures { λ r. ⌜ SplitEnds V1 (sizeOf width height) (planes (now (y .entry)) (now (u .entry)) (now (v .entry)))
-        (planes (now («main_y» .entry)) (now («main_u» .entry)) (now («main_v» .entry)))
-        (planes (now («auxiliary_y» .entry)) (now («auxiliary_u» .entry)) (now («auxiliary_v» .entry))) r
+    ensures { λ r. ⌜ SplitOutcome V1 (sizeOf width height) (atEntry y u v)
+        (atEntry «main_y» «main_u» «main_v») (atEntry «auxiliary_y» «auxiliary_u» «auxiliary_v») r
         (now («main_y» .exit) ∷ now («main_u» .exit) ∷ now («main_v» .exit)
         ∷ now («auxiliary_y» .exit) ∷ now («auxiliary_u» .exit) ∷ now («auxiliary_v» .exit) ∷ []) ⌝ }
 {
@@ -58,9 +57,8 @@ pub extern "C" fn haythaw_split_v2(
     auxiliary_u: &mut [u8],
     auxiliary_v: &mut [u8],
 ) -> Views
-    ensures { λ r. ⌜ SplitEnds V2 (sizeOf width height) (planes (now (y .entry)) (now (u .entry)) (now (v .entry)))
-        (planes (now («main_y» .entry)) (now («main_u» .entry)) (now («main_v» .entry)))
-        (planes (now («auxiliary_y» .entry)) (now («auxiliary_u» .entry)) (now («auxiliary_v» .entry))) r
+    ensures { λ r. ⌜ SplitOutcome V2 (sizeOf width height) (atEntry y u v)
+        (atEntry «main_y» «main_u» «main_v») (atEntry «auxiliary_y» «auxiliary_u» «auxiliary_v») r
         (now («main_y» .exit) ∷ now («main_u» .exit) ∷ now («main_v» .exit)
         ∷ now («auxiliary_y» .exit) ∷ now («auxiliary_u» .exit) ∷ now («auxiliary_v» .exit) ∷ []) ⌝ }
 {

@@ -5,13 +5,13 @@ use mathlib.Core.Path.{_≡_}
 use mathlib.Core.Logic.{_↔_, _⊎_, Iff·trans, true-and, and-true}
 use mathlib.Core.List.{List, [], _∷_}
 use lib.ListN.{length}
-use Rattle.lent.specs.Outcome.{Outcome, answerOf}
+use Rattle.lent.specs.Outcome.{answerOf}
 use Rattle.lent.specs.declared.Answer.{Answer}
 use Rattle.lent.proofs.Refusal.{refusal-exactly, refusal-none}
 use Rattle.lent.proofs.Outcome.{outcome-unique}
 use Rattle.picture.specs.declared.Size.{Size}
 use Rattle.picture.specs.Sizes.{strideOf, rowsOf, planesShort, PlanesFit}
-use Rattle.picture.specs.New.{newNumberOf, newBuffersOf}
+use Rattle.picture.specs.New.{newNumberOf, newBuffersOf, NewOutcome}
 use Rattle.picture.proofs.Sizes.{short-exactly, fit-exactly}
 
 module _ (z : Size) (ny nu nv : ℕ) where
@@ -31,5 +31,5 @@ newAnswerOf i = answerOf (newNumberOf (i .0) (length (i .1)) (length (i .2)) (le
 abbrev pub newBuffers : NewInput → List (List ℕ)
 newBuffers i = newBuffersOf (i .0) (i .1) (i .2) (i .3)
 
-pub new-unique : (i : NewInput) (r q : Answer) (rs qs : List (List ℕ)) → Outcome (newAnswerOf i) (newBuffers i) r rs → Outcome (newAnswerOf i) (newBuffers i) q qs → (r ≡ q) × (rs ≡ qs)
-new-unique = outcome-unique newAnswerOf newBuffers
+pub new-unique : (z : Size) (y u v : List ℕ) (r q : Answer) (rs qs : List (List ℕ)) → NewOutcome z y u v r rs → NewOutcome z y u v q qs → (r ≡ q) × (rs ≡ qs)
+new-unique z y u v = outcome-unique newAnswerOf newBuffers (z, y, u, v)

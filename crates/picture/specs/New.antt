@@ -3,10 +3,12 @@
 --   newNumberOf z ny nu nv    the number that `new` answers, from the size and the planes' lengths
 --   freshLuma, freshChroma    "A fresh picture has Y 0, U and V 128"
 --   newBuffersOf z y u v      what the three lent buffers hold after `new`
+--   NewOutcome z y u v        how `new` ends, refusals included
 use Prim.Native.Nat.{ℕ}
 use mathlib.Core.List.{List, [], _∷_}
 use lib.ListN.{length}
-use Rattle.lent.specs.Outcome.{lentAfter}
+use Rattle.lent.specs.declared.Answer.{Answer}
+use Rattle.lent.specs.Outcome.{Outcome, answerOf, lentAfter}
 use Rattle.lent.specs.Refusal.{refusal}
 use Rattle.picture.specs.declared.Size.{Size}
 use Rattle.picture.specs.Sizes.{planesShort, planeOf}
@@ -24,3 +26,6 @@ unfoldable pub newBuffersOf : Size → List ℕ → List ℕ → List ℕ → Li
 newBuffersOf z y u v =
     let n = newNumberOf z (length y) (length u) (length v) in
     lentAfter n y (planeOf z freshLuma y) ∷ lentAfter n u (planeOf z freshChroma u) ∷ lentAfter n v (planeOf z freshChroma v) ∷ []
+
+abbrev pub NewOutcome : Size → List ℕ → List ℕ → List ℕ → Answer → List (List ℕ) → Type 0
+NewOutcome z y u v = Outcome (answerOf (newNumberOf z (length y) (length u) (length v)) 0) (newBuffersOf z y u v)

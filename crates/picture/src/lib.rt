@@ -7,10 +7,9 @@ ghost use mathlib.Core.Path.{_≡_};
 ghost use mathlib.Core.List.{[], _∷_};
 ghost use Prim.Native.Nat.{_*_, _≤_};
 ghost use lib.ListN.{length};
-ghost use Rattle.lent.specs.Outcome.{Outcome, answerOf};
 ghost use Rattle.lent.specs.Paint.{painted, whole};
 ghost use Rattle.picture.specs.Sizes.{strideOf, rowsOf, allocationSizeOf, planesShort};
-ghost use Rattle.picture.specs.New.{newNumberOf, newBuffersOf};
+ghost use Rattle.picture.specs.New.{newNumberOf, NewOutcome};
 
 // A picture's width and height in pixels.
 pub struct Size {
@@ -77,7 +76,8 @@ fn new_number(size: Size, ny: usize, nu: usize, nv: usize) -> u32
 
 // A fresh picture: Y 0, U and V 128. Ports `Yuv444Frame::new`.
 pub fn new(size: Size, y: &mut [u8], u: &mut [u8], v: &mut [u8]) -> lent::Answer
-    ensures { λ r. ⌜ Outcome (answerOf (newNumberOf size (length (now (y .entry))) (length (now (u .entry))) (length (now (v .entry)))) 0) (newBuffersOf size (now (y .entry)) (now (u .entry)) (now (v .entry))) r (now (y .exit) ∷ now (u .exit) ∷ now (v .exit) ∷ []) ⌝ }
+    ensures { λ r. ⌜ NewOutcome size (now (y .entry)) (now (u .entry)) (now (v .entry))
+        r (now (y .exit) ∷ now (u .exit) ∷ now (v .exit) ∷ []) ⌝ }
 {
     let number = new_number(size, y.len(), u.len(), v.len());
     if number != 0 {

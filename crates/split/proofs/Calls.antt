@@ -16,7 +16,7 @@ use Rattle.split.specs.declared.number.PlaneLengths.{PlaneLengths}
 use Rattle.split.specs.declared.number.Views.{Views}
 use Rattle.split.proofs.Exactly.{split-0-exactly}
 use Rattle.split.proofs.Short.{view-room}
-use Rattle.split.specs.Split.{Planes, lengthsOf, mainSample, auxiliarySample, viewShort, splitNumberOf, splitAnswerOf, splitBuffersOf, Written, SplitEnds}
+use Rattle.split.specs.Split.{Planes, lengthsOf, mainSample, auxiliarySample, viewShort, splitNumberOf, splitAnswerOf, splitBuffersOf, Written, SplitOutcome}
 use Rattle.split_views.specs.Fits.{MacroblocksFit}
 use Rattle.split.specs.Accepted.{SplitAccepted}
 
@@ -38,7 +38,7 @@ accepted z p m a e =
     }
 
 module _ (t : Layout) (z : Size) (p m a : Planes) {n : ℕ} {r : Views} (is : n ≡ splitNumberOf z (lengthsOf p) (lengthsOf m) (lengthsOf a)) where
-  pub refused : (n ≡ 0 → ⊥) → r ≡ splitAnswerOf z n → SplitEnds t z p m a r (m .y ∷ m .u ∷ m .v ∷ a .y ∷ a .u ∷ a .v ∷ [])
+  pub refused : (n ≡ 0 → ⊥) → r ≡ splitAnswerOf z n → SplitOutcome t z p m a r (m .y ∷ m .u ∷ m .v ∷ a .y ∷ a .u ∷ a .v ∷ [])
   unfolding splitBuffersOf
   refused some answered =
       let no : eqb (splitNumberOf z (lengthsOf p) (lengthsOf m) (lengthsOf a)) 0 ≡ false = ne-eqb _ 0 (λ e. some (is ∙ e)) in
@@ -46,7 +46,7 @@ module _ (t : Layout) (z : Size) (p m a : Planes) {n : ℕ} {r : Views} (is : n 
 
   pub done : {m′ a′ : Planes} → n ≡ 0 → r ≡ splitAnswerOf z 0
       → Written (strideOf z) (rowsOf z) (mainSample (strideOf z) p) m m′ → Written (strideOf z) (rowsOf z) (auxiliarySample t (strideOf z) (p .u) (p .v)) a a′
-      → SplitEnds t z p m a r (m′ .y ∷ m′ .u ∷ m′ .v ∷ a′ .y ∷ a′ .u ∷ a′ .v ∷ [])
+      → SplitOutcome t z p m a r (m′ .y ∷ m′ .u ∷ m′ .v ∷ a′ .y ∷ a′ .u ∷ a′ .v ∷ [])
   unfolding splitBuffersOf
   done none answered w x =
       let zero : splitNumberOf z (lengthsOf p) (lengthsOf m) (lengthsOf a) ≡ 0 = sym is ∙ none in

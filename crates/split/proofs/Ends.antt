@@ -23,10 +23,10 @@ use Rattle.layout.specs.declared.Layout.{Layout}
 use Rattle.split.specs.declared.number.PlaneLengths.{PlaneLengths}
 use Rattle.split.specs.declared.number.Views.{Views}
 use Rattle.split.proofs.Exactly.{small-exactly, split-5-plainly, split-0-exactly}
-use Rattle.split.specs.Split.{Planes, lengthsOf, mainSample, auxiliarySample, viewShort, viewAfter, splitNumberOf, splitAnswerOf, splitBuffersOf, SplitEnds}
+use Rattle.split.specs.Split.{Planes, lengthsOf, mainSample, auxiliarySample, viewShort, viewAfter, splitNumberOf, splitAnswerOf, splitBuffersOf, SplitOutcome}
 
 -- of `split`, in either layout
-pub split-unique : (t : Layout) (z : Size) (p m a : Planes) (r q : Views) (rs qs : List (List ℕ)) → SplitEnds t z p m a r rs → SplitEnds t z p m a q qs → (r ≡ q) × (rs ≡ qs)
+pub split-unique : (t : Layout) (z : Size) (p m a : Planes) (r q : Views) (rs qs : List (List ℕ)) → SplitOutcome t z p m a r rs → SplitOutcome t z p m a q qs → (r ≡ q) × (rs ≡ qs)
 split-unique t z p m a = outcome-unique (λ (i : Planes). splitAnswerOf z (splitNumberOf z (lengthsOf i) (lengthsOf m) (lengthsOf a))) (λ i. splitBuffersOf t z i m a) p
 
 -- ---- a picture with no pixels

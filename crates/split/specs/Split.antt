@@ -1,11 +1,11 @@
--- Both views of a picture (R22, R80 to R83). What a view
--- holds, `mainSample` and `auxiliarySample`, and `Written`, are said in split_views (specs/Views.antt), the number and the answer, `splitNumberOf`
--- and `splitAnswerOf`, in Number.antt; both are passed on here.
+-- Both views of a picture (R22, R80 to R83). What a view holds, `mainSample` and `auxiliarySample`, `Written`, and the planes that a contract
+-- names, `atEntry` and `atExit`, are said in split_views (specs/Views.antt), the number and the answer, `splitNumberOf` and `splitAnswerOf`, in
+-- Number.antt; both are passed on here.
 --
 --   lengthsOf p              the lengths of three lent buffers
 --   viewAfter n z s o        what the buffers o of a view that holds s have in them after a split that answers n
---   splitBuffersOf t z p m a    what the six outputs hold afterwards
---   SplitEnds t z p m a r rs    how a split in layout t ends: it answers r and leaves rs in the six outputs
+--   splitBuffersOf t z p m a       what the six outputs hold afterwards
+--   SplitOutcome t z p m a r rs    how a split in layout t ends: it answers r and leaves rs in the six outputs
 use Prim.Native.Nat.{ℕ, _/_}
 use mathlib.Core.List.{List, [], _∷_, _++_}
 use lib.ListN.{length}
@@ -19,7 +19,7 @@ use Rattle.split.specs.declared.number.PlaneLengths.{PlaneLengths}
 use Rattle.split.specs.declared.number.Views.{Views}
 pub use Rattle.split.specs.Number.{splitAnswerOf}
 unfoldable pub use Rattle.split.specs.Number.{tooLarge, viewShort, splitNumberOf}
-pub use Rattle.split_views.specs.Views.{Planes, planes, mainSample, pickChroma, sampleAt, Written}
+pub use Rattle.split_views.specs.Views.{Planes, planes, atEntry, atExit, mainSample, pickChroma, sampleAt, Written}
 unfoldable pub use Rattle.split_views.specs.Views.{auxiliarySample}
 
 abbrev pub lengthsOf : Planes → PlaneLengths
@@ -37,5 +37,5 @@ splitBuffersOf t z p m a =
     let n = splitNumberOf z (lengthsOf p) (lengthsOf m) (lengthsOf a) in
     viewAfter n z (mainSample (strideOf z) p) m ++ viewAfter n z (auxiliarySample t (strideOf z) (p .u) (p .v)) a
 
-abbrev pub SplitEnds : Layout → Size → Planes → Planes → Planes → Views → List (List ℕ) → Type 0
-SplitEnds t z p m a r rs = Outcome (splitAnswerOf z (splitNumberOf z (lengthsOf p) (lengthsOf m) (lengthsOf a))) (splitBuffersOf t z p m a) r rs
+abbrev pub SplitOutcome : Layout → Size → Planes → Planes → Planes → Views → List (List ℕ) → Type 0
+SplitOutcome t z p m a r rs = Outcome (splitAnswerOf z (splitNumberOf z (lengthsOf p) (lengthsOf m) (lengthsOf a))) (splitBuffersOf t z p m a) r rs

@@ -3,7 +3,7 @@
 // Promised: every byte of the planes of both views, and no byte after them. `split` tests the lengths first.
 ghost use lib.ListN.{length};
 ghost use Rattle.picture.specs.Sizes.{strideOf, rowsOf};
-ghost use Rattle.split_views.specs.Views.{planes, mainSample, auxiliarySample, Written};
+ghost use Rattle.split_views.specs.Views.{atEntry, atExit, mainSample, auxiliarySample, Written};
 ghost use Rattle.split_views.specs.Fits.{MacroblocksFit, Room};
 use layout::Layout;
 
@@ -24,10 +24,16 @@ pub fn both_views(
     requires { ⌜ MacroblocksFit (length (now y)) (strideOf size) (rowsOf size) ⌝ }
     requires { ⌜ MacroblocksFit (length (now u)) (strideOf size) (rowsOf size) ⌝ }
     requires { ⌜ MacroblocksFit (length (now v)) (strideOf size) (rowsOf size) ⌝ }
-    requires { ⌜ Room (length (now «main_y»)) (length (now «main_u»)) (length (now «main_v»)) (strideOf size) (rowsOf size) ⌝ }
-    requires { ⌜ Room (length (now «auxiliary_y»)) (length (now «auxiliary_u»)) (length (now «auxiliary_v»)) (strideOf size) (rowsOf size) ⌝ }
-    ensures { λ _. ⌜ Written (strideOf size) (rowsOf size) (mainSample (strideOf size) (planes (now (y .entry)) (now (u .entry)) (now (v .entry)))) (planes (now («main_y» .entry)) (now («main_u» .entry)) (now («main_v» .entry))) (planes (now («main_y» .exit)) (now («main_u» .exit)) (now («main_v» .exit))) ⌝ }
-    ensures { λ _. ⌜ Written (strideOf size) (rowsOf size) (auxiliarySample layout (strideOf size) (now (u .entry)) (now (v .entry))) (planes (now («auxiliary_y» .entry)) (now («auxiliary_u» .entry)) (now («auxiliary_v» .entry))) (planes (now («auxiliary_y» .exit)) (now («auxiliary_u» .exit)) (now («auxiliary_v» .exit))) ⌝ }
+    requires { ⌜ Room (length (now «main_y»)) (length (now «main_u»)) (length (now «main_v»))
+        (strideOf size) (rowsOf size) ⌝ }
+    requires { ⌜ Room (length (now «auxiliary_y»)) (length (now «auxiliary_u»)) (length (now «auxiliary_v»))
+        (strideOf size) (rowsOf size) ⌝ }
+    ensures { λ _. ⌜ Written (strideOf size) (rowsOf size)
+        (mainSample (strideOf size) (atEntry y u v))
+        (atEntry «main_y» «main_u» «main_v») (atExit «main_y» «main_u» «main_v») ⌝ }
+    ensures { λ _. ⌜ Written (strideOf size) (rowsOf size)
+        (auxiliarySample layout (strideOf size) (now (u .entry)) (now (v .entry)))
+        (atEntry «auxiliary_y» «auxiliary_u» «auxiliary_v») (atExit «auxiliary_y» «auxiliary_u» «auxiliary_v») ⌝ }
 {
     let stride = picture::stride(size);
     let rows = picture::rows(size);

@@ -8,7 +8,7 @@ pub mod both; // both views, written
 pub mod number; // 1, 5 or 6, and the answer
 
 ghost use mathlib.Core.List.{[], _∷_};
-ghost use Rattle.split.specs.Split.{planes, SplitEnds};
+ghost use Rattle.split.specs.Split.{atEntry, SplitOutcome};
 pub use crate::number::PlaneLengths;
 pub use crate::number::Views;
 pub use crate::number::split_number;
@@ -28,7 +28,10 @@ pub fn split(
     auxiliary_u: &mut [u8],
     auxiliary_v: &mut [u8],
 ) -> Views
-    ensures { λ r. ⌜ SplitEnds layout size (planes (now (y .entry)) (now (u .entry)) (now (v .entry))) (planes (now («main_y» .entry)) (now («main_u» .entry)) (now («main_v» .entry))) (planes (now («auxiliary_y» .entry)) (now («auxiliary_u» .entry)) (now («auxiliary_v» .entry))) r (now («main_y» .exit) ∷ now («main_u» .exit) ∷ now («main_v» .exit) ∷ now («auxiliary_y» .exit) ∷ now («auxiliary_u» .exit) ∷ now («auxiliary_v» .exit) ∷ []) ⌝ }
+    ensures { λ r. ⌜ SplitOutcome layout size (atEntry y u v)
+        (atEntry «main_y» «main_u» «main_v») (atEntry «auxiliary_y» «auxiliary_u» «auxiliary_v») r
+        (now («main_y» .exit) ∷ now («main_u» .exit) ∷ now («main_v» .exit)
+        ∷ now («auxiliary_y» .exit) ∷ now («auxiliary_u» .exit) ∷ now («auxiliary_v» .exit) ∷ []) ⌝ }
 {
     let from = PlaneLengths {
         y: y.len(),

@@ -1,6 +1,7 @@
 -- What the two views of a split hold (R80 to R82).
 --
 --   Planes, planes y u v     three lent buffers: those of the picture, of the main view, of the auxiliary view
+--   atEntry y u v, atExit y u v    the same of three parameters of a call: what they hold when it begins, and when it is over
 --   mainSample stride p q r c    the main view's plane q, at row r and column c: "Main: the luma plane and the even-even chroma"
 --   pickChroma k u v           the picture's chroma plane k
 --   sampleAt stride u v l    the picture's chroma sample at the place l
@@ -13,6 +14,8 @@
 use Prim.Native.Nat.{ℕ, _+_, _*_, _/_}
 use mathlib.Core.Path.{_≡_}
 use mathlib.Core.List.{List}
+use denote.Ref.{RefT, now}
+use denote.Triple.Both.{Both}
 use Rattle.lent.specs.Paint.{painted, whole}
 use Rattle.lent.specs.Samples.{sample}
 use Rattle.layout.specs.Maps.{Part, PY, PU, PV, Place, spot, halfOf, into, maps}
@@ -27,6 +30,16 @@ pub record Planes : Type 0 where
 
 abbrev pub planes : List ℕ → List ℕ → List ℕ → Planes
 planes y u v = record { y = y; u = u; v = v }
+
+-- a lent buffer, as a contract names it: at the call's entry and at its exit
+abbrev pub LentBytes : Type 0
+LentBytes = Both (RefT (List ℕ)) (RefT (List ℕ))
+
+abbrev pub atEntry : LentBytes → LentBytes → LentBytes → Planes
+atEntry y u v = planes (now (y .entry)) (now (u .entry)) (now (v .entry))
+
+abbrev pub atExit : LentBytes → LentBytes → LentBytes → Planes
+atExit y u v = planes (now (y .exit)) (now (u .exit)) (now (v .exit))
 
 abbrev pub mainSample : ℕ → Planes → Part → ℕ → ℕ → ℕ
 mainSample stride p PY r c = sample (p .y) stride r c

@@ -7,7 +7,7 @@ ghost use Prim.Native.Nat.{_+_, _*_, _/_, _<_, _≤_};
 ghost use lib.ListN.{length};
 ghost use Rattle.lent.specs.Paint.{painted, whole};
 ghost use Rattle.layout.specs.Maps.{PY};
-ghost use Rattle.split_views.specs.Views.{planes, auxiliarySample, v2ChromaSample, Written};
+ghost use Rattle.split_views.specs.Views.{atEntry, atExit, auxiliarySample, v2ChromaSample, Written};
 ghost use Rattle.split_views.specs.Fits.{MacroblocksFit, Room};
 ghost use Rattle.split_views.specs.Chroma.{chromaSample};
 use layout::Layout;
@@ -17,7 +17,8 @@ fn luma(layout: Layout, out: &mut [u8], u: &[u8], v: &[u8], stride: usize, rows:
     requires { ⌜ rows * stride ≤ length (now out) ⌝ }
     requires { ⌜ MacroblocksFit (length (now u)) stride rows ⌝ }
     requires { ⌜ MacroblocksFit (length (now v)) stride rows ⌝ }
-    ensures { λ _. ⌜ now (out .exit) ≡ painted stride rows whole (auxiliarySample layout stride (now (u .entry)) (now (v .entry)) PY) (now (out .entry)) ⌝ }
+    ensures { λ _. ⌜ now (out .exit) ≡ painted stride rows whole
+        (auxiliarySample layout stride (now (u .entry)) (now (v .entry)) PY) (now (out .entry)) ⌝ }
 {
     let mut row = 0;
     while row < rows {
@@ -33,7 +34,8 @@ fn v2_chroma(out: &mut [u8], u: &[u8], v: &[u8], stride: usize, rows: usize, fir
     requires { ⌜ MacroblocksFit (length (now u)) stride rows ⌝ }
     requires { ⌜ MacroblocksFit (length (now v)) stride rows ⌝ }
     requires { ⌜ first < 4 ⌝ }
-    ensures { λ _. ⌜ now (out .exit) ≡ painted (stride / 2) (rows / 2) whole (λ r. v2ChromaSample stride (now (u .entry)) (now (v .entry)) first (2 * r + 1)) (now (out .entry)) ⌝ }
+    ensures { λ _. ⌜ now (out .exit) ≡ painted (stride / 2) (rows / 2) whole
+        (λ r. v2ChromaSample stride (now (u .entry)) (now (v .entry)) first (2 * r + 1)) (now (out .entry)) ⌝ }
 {
     let half = stride / 2;
     let high = rows / 2;
@@ -68,7 +70,8 @@ fn chroma(
     requires { ⌜ MacroblocksFit (length (now u)) stride rows ⌝ }
     requires { ⌜ MacroblocksFit (length (now v)) stride rows ⌝ }
     requires { ⌜ first < 4 ⌝ }
-    ensures { λ _. ⌜ now (out .exit) ≡ painted (stride / 2) (rows / 2) whole (chromaSample layout stride (now (own .entry)) (now (u .entry)) (now (v .entry)) first) (now (out .entry)) ⌝ }
+    ensures { λ _. ⌜ now (out .exit) ≡ painted (stride / 2) (rows / 2) whole
+        (chromaSample layout stride (now (own .entry)) (now (u .entry)) (now (v .entry)) first) (now (out .entry)) ⌝ }
 {
     match layout {
         Layout::V1 => crate::half_plane(out, own, stride, rows, 1),
@@ -90,7 +93,8 @@ pub fn auxiliary_view(
     requires { ⌜ MacroblocksFit (length (now u)) stride rows ⌝ }
     requires { ⌜ MacroblocksFit (length (now v)) stride rows ⌝ }
     requires { ⌜ Room (length (now «auxiliary_y»)) (length (now «auxiliary_u»)) (length (now «auxiliary_v»)) stride rows ⌝ }
-    ensures { λ _. ⌜ Written stride rows (auxiliarySample layout stride (now (u .entry)) (now (v .entry))) (planes (now («auxiliary_y» .entry)) (now («auxiliary_u» .entry)) (now («auxiliary_v» .entry))) (planes (now («auxiliary_y» .exit)) (now («auxiliary_u» .exit)) (now («auxiliary_v» .exit))) ⌝ }
+    ensures { λ _. ⌜ Written stride rows (auxiliarySample layout stride (now (u .entry)) (now (v .entry)))
+        (atEntry «auxiliary_y» «auxiliary_u» «auxiliary_v») (atExit «auxiliary_y» «auxiliary_u» «auxiliary_v») ⌝ }
 {
     luma(layout, auxiliary_y, u, v, stride, rows);
     chroma(layout, auxiliary_u, u, u, v, stride, rows, 0);

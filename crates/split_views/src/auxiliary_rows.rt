@@ -16,7 +16,8 @@ fn v1_luma_row(out: &mut [u8], u: &[u8], v: &[u8], stride: usize, row: usize)
     requires { ⌜ length (now out) ≡ stride ⌝ }
     requires { ⌜ BlockFits (length (now u)) stride row ⌝ }
     requires { ⌜ BlockFits (length (now v)) stride row ⌝ }
-    ensures { λ _. ⌜ now (out .exit) ≡ paint every (auxiliarySample V1 stride (now (u .entry)) (now (v .entry)) PY row) (now (out .entry)) ⌝ }
+    ensures { λ _. ⌜ now (out .exit) ≡ paint every (auxiliarySample V1 stride (now (u .entry)) (now (v .entry)) PY row)
+        (now (out .entry)) ⌝ }
 {
     let within = row % 16;
     let block = row - within;
@@ -33,7 +34,8 @@ fn v2_luma_row(out: &mut [u8], u: &[u8], v: &[u8], stride: usize, row: usize)
     requires { ⌜ stride % 16 ≡ 0 ⌝ }
     requires { ⌜ row * stride + stride ≤ length (now u) ⌝ }
     requires { ⌜ row * stride + stride ≤ length (now v) ⌝ }
-    ensures { λ _. ⌜ now (out .exit) ≡ paint every (auxiliarySample V2 stride (now (u .entry)) (now (v .entry)) PY row) (now (out .entry)) ⌝ }
+    ensures { λ _. ⌜ now (out .exit) ≡ paint every (auxiliarySample V2 stride (now (u .entry)) (now (v .entry)) PY row)
+        (now (out .entry)) ⌝ }
 {
     let half = stride / 2;
     split_rows::seconds_row(&mut out[0..half], u, stride, row, 1);
@@ -46,7 +48,8 @@ pub fn luma_row(layout: Layout, out: &mut [u8], u: &[u8], v: &[u8], stride: usiz
     requires { ⌜ stride % 16 ≡ 0 ⌝ }
     requires { ⌜ BlockFits (length (now u)) stride row ⌝ }
     requires { ⌜ BlockFits (length (now v)) stride row ⌝ }
-    ensures { λ _. ⌜ now (out .exit) ≡ paint every (auxiliarySample layout stride (now (u .entry)) (now (v .entry)) PY row) (now (out .entry)) ⌝ }
+    ensures { λ _. ⌜ now (out .exit) ≡ paint every (auxiliarySample layout stride (now (u .entry)) (now (v .entry)) PY row)
+        (now (out .entry)) ⌝ }
 {
     match layout {
         Layout::V1 => v1_luma_row(out, u, v, stride, row),
@@ -61,7 +64,8 @@ pub fn v2_chroma_row(out: &mut [u8], u: &[u8], v: &[u8], stride: usize, row: usi
     requires { ⌜ row * stride + stride ≤ length (now u) ⌝ }
     requires { ⌜ row * stride + stride ≤ length (now v) ⌝ }
     requires { ⌜ first < 4 ⌝ }
-    ensures { λ _. ⌜ now (out .exit) ≡ paint every (v2ChromaSample stride (now (u .entry)) (now (v .entry)) first row) (now (out .entry)) ⌝ }
+    ensures { λ _. ⌜ now (out .exit) ≡ paint every (v2ChromaSample stride (now (u .entry)) (now (v .entry)) first row)
+        (now (out .entry)) ⌝ }
 {
     let half = stride / 2;
     let quarter = stride / 4;

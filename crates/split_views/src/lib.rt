@@ -10,7 +10,7 @@ ghost use Prim.Native.Nat.{_+_, _*_, _/_, _<_, _≤_};
 ghost use lib.ListN.{length};
 ghost use Rattle.lent.specs.Paint.{painted, whole};
 ghost use Rattle.lent.specs.Samples.{sample};
-ghost use Rattle.split_views.specs.Views.{planes, mainSample, Written};
+ghost use Rattle.split_views.specs.Views.{atEntry, atExit, mainSample, Written};
 ghost use Rattle.split_views.specs.Fits.{MacroblocksFit, Room};
 
 // The luma plane.
@@ -32,7 +32,8 @@ pub fn half_plane(out: &mut [u8], plane: &[u8], stride: usize, rows: usize, firs
     requires { ⌜ rows / 2 * (stride / 2) ≤ length (now out) ⌝ }
     requires { ⌜ MacroblocksFit (length (now plane)) stride rows ⌝ }
     requires { ⌜ first < 2 ⌝ }
-    ensures { λ _. ⌜ now (out .exit) ≡ painted (stride / 2) (rows / 2) whole (λ r c. sample (now (plane .entry)) stride (2 * r) (2 * c + first)) (now (out .entry)) ⌝ }
+    ensures { λ _. ⌜ now (out .exit) ≡ painted (stride / 2) (rows / 2) whole
+        (λ r c. sample (now (plane .entry)) stride (2 * r) (2 * c + first)) (now (out .entry)) ⌝ }
 {
     let half = stride / 2;
     let high = rows / 2;
@@ -59,7 +60,8 @@ pub fn main_view(
     requires { ⌜ MacroblocksFit (length (now u)) stride rows ⌝ }
     requires { ⌜ MacroblocksFit (length (now v)) stride rows ⌝ }
     requires { ⌜ Room (length (now «main_y»)) (length (now «main_u»)) (length (now «main_v»)) stride rows ⌝ }
-    ensures { λ _. ⌜ Written stride rows (mainSample stride (planes (now (y .entry)) (now (u .entry)) (now (v .entry)))) (planes (now («main_y» .entry)) (now («main_u» .entry)) (now («main_v» .entry))) (planes (now («main_y» .exit)) (now («main_u» .exit)) (now («main_v» .exit))) ⌝ }
+    ensures { λ _. ⌜ Written stride rows (mainSample stride (atEntry y u v))
+        (atEntry «main_y» «main_u» «main_v») (atExit «main_y» «main_u» «main_v») ⌝ }
 {
     main_luma(main_y, y, stride, rows);
     half_plane(main_u, u, stride, rows, 0);

@@ -5,29 +5,25 @@ use mathlib.Core.List.{List, [], _∷_}
 use lib.ListN.{length}
 use Rattle.colour.specs.Colour.{reverseOf}
 use Rattle.lent.specs.declared.Answer.{Answer}
-use Rattle.lent.specs.Outcome.{Outcome, answerOf, lentAfter}
+use Rattle.lent.specs.Outcome.{answerOf, lentAfter}
 use Rattle.lent.proofs.Outcome.{outcome-unique}
 use Rattle.picture.specs.declared.Size.{Size}
 use Rattle.view.specs.declared.View.{View}
 use Rattle.to_rgba.specs.declared.Rect.{Rect}
-use Rattle.to_rgba.specs.Picture.{toRgbaCountOf, toRgbaNumberOf, toRgbaOf}
-use Rattle.to_rgba.specs.View.{viewToRgbaCountOf, viewToRgbaNumberOf, viewToRgbaOf}
-
--- how a call with one output ends, by its number, count and output
-abbrev Ends : ℕ → ℕ → List ℕ → List ℕ → Answer → List (List ℕ) → Type 0
-Ends n count old new r rs = Outcome (answerOf n count) (lentAfter n old new ∷ []) r rs
+use Rattle.to_rgba.specs.Picture.{toRgbaCountOf, toRgbaNumberOf, toRgbaOf, ToRgbaOutcome}
+use Rattle.to_rgba.specs.View.{viewToRgbaCountOf, viewToRgbaNumberOf, viewToRgbaOf, ViewToRgbaOutcome}
 
 module _ (y u v out : List ℕ) (r q : Answer) (rs qs : List (List ℕ)) where
   module _ (z : Size) (rect : Rect) where
     abbrev number : ℕ
     number = toRgbaNumberOf z (toRgbaCountOf z rect) (length y) (length u) (length v) (length out)
 
-    pub to-rgba-unique : Ends number (toRgbaCountOf z rect) out (toRgbaOf z y u v rect out) r rs → Ends number (toRgbaCountOf z rect) out (toRgbaOf z y u v rect out) q qs → (r ≡ q) × (rs ≡ qs)
+    pub to-rgba-unique : ToRgbaOutcome z y u v rect out r rs → ToRgbaOutcome z y u v rect out q qs → (r ≡ q) × (rs ≡ qs)
     to-rgba-unique = outcome-unique (λ (n : ℕ). answerOf n (toRgbaCountOf z rect)) (λ n. lentAfter n out (toRgbaOf z y u v rect out) ∷ []) number r q rs qs
 
   module _ (w : View) where
     abbrev view-number : ℕ
     view-number = viewToRgbaNumberOf w (viewToRgbaCountOf w) (length y) (length u) (length v) (length out)
 
-    pub view-to-rgba-unique : Ends view-number (viewToRgbaCountOf w) out (viewToRgbaOf reverseOf w y u v out) r rs → Ends view-number (viewToRgbaCountOf w) out (viewToRgbaOf reverseOf w y u v out) q qs → (r ≡ q) × (rs ≡ qs)
+    pub view-to-rgba-unique : ViewToRgbaOutcome reverseOf w y u v out r rs → ViewToRgbaOutcome reverseOf w y u v out q qs → (r ≡ q) × (rs ≡ qs)
     view-to-rgba-unique = outcome-unique (λ (n : ℕ). answerOf n (viewToRgbaCountOf w)) (λ n. lentAfter n out (viewToRgbaOf reverseOf w y u v out) ∷ []) view-number r q rs qs

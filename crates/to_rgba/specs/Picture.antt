@@ -9,9 +9,13 @@
 --                          what would be written
 --   toRgbaOf z y u v q out       the output after a call that is not refused: rows and columns of the picture from the rectangle's top
 --                          and left on; bytes past the count stay
+--   ToRgbaOutcome z y u v q out      how the call ends, refusals included
 use Prim.Native.Nat.{ℕ, _*_, _-_, min}
 use mathlib.Core.List.{List, [], _∷_}
 use lib.Dec.{ltb}
+use lib.ListN.{length}
+use Rattle.lent.specs.declared.Answer.{Answer}
+use Rattle.lent.specs.Outcome.{Outcome, answerOf, lentAfter}
 use Rattle.lent.specs.Refusal.{refusal}
 use Rattle.picture.specs.declared.Size.{Size}
 use Rattle.picture.specs.Sizes.{strideOf, planesShort}
@@ -36,3 +40,8 @@ toRgbaNumberOf z count ny nu nv nout = refusal ((planesShort z ny nu nv, 1) ∷ 
 
 unfoldable pub toRgbaOf : Size → List ℕ → List ℕ → List ℕ → Rect → List ℕ → List ℕ
 toRgbaOf z y u v q out = pictured (acrossOf z q) (downOf z q) (shifted (q .top) (q .left) (pixelAt (strideOf z) y u v)) out
+
+abbrev pub ToRgbaOutcome : Size → List ℕ → List ℕ → List ℕ → Rect → List ℕ → Answer → List (List ℕ) → Type 0
+ToRgbaOutcome z y u v q out =
+    let n = toRgbaNumberOf z (toRgbaCountOf z q) (length y) (length u) (length v) (length out) in
+    Outcome (answerOf n (toRgbaCountOf z q)) (lentAfter n out (toRgbaOf z y u v q out) ∷ [])

@@ -7,12 +7,11 @@ ghost use mathlib.Core.Path.{_≡_};
 ghost use mathlib.Core.List.{[], _∷_};
 ghost use lib.ListN.{length};
 ghost use Rattle.colour.specs.Colour.{reverseOf};
-ghost use Rattle.lent.specs.Outcome.{Outcome, answerOf, lentAfter};
 ghost use Rattle.to_rgba_rows.specs.Rules.{pixelAt, viewPixelAt};
 ghost use Rattle.to_rgba_rows.specs.Fits.{PixelRowsFit};
 ghost use Rattle.to_rgba.specs.Pictured.{pictured, shifted};
-ghost use Rattle.to_rgba.specs.Picture.{clippedOf, toRgbaCountOf, toRgbaNumberOf, toRgbaOf};
-ghost use Rattle.to_rgba.specs.View.{viewToRgbaCountOf, viewToRgbaNumberOf, viewToRgbaOf};
+ghost use Rattle.to_rgba.specs.Picture.{clippedOf, toRgbaNumberOf, ToRgbaOutcome};
+ghost use Rattle.to_rgba.specs.View.{viewToRgbaNumberOf, ViewToRgbaOutcome};
 ghost use Rattle.to_rgba.specs.Fits.{ViewRowsFit};
 
 // A rectangle of a picture: right and bottom are exclusive.
@@ -37,7 +36,8 @@ fn put_rows(
     h: usize,
 )
     requires { ⌜ PixelRowsFit (length (now out)) (length (now y)) (length (now u)) (length (now v)) stride rows left top n h ⌝ }
-    ensures { λ _. ⌜ now (out .exit) ≡ pictured n h (shifted top left (pixelAt stride (now (y .entry)) (now (u .entry)) (now (v .entry)))) (now (out .entry)) ⌝ }
+    ensures { λ _. ⌜ now (out .exit) ≡ pictured n h
+        (shifted top left (pixelAt stride (now (y .entry)) (now (u .entry)) (now (v .entry)))) (now (out .entry)) ⌝ }
 {
     let wide = 4 * n;
     let mut r: usize = 0;
@@ -96,7 +96,8 @@ pub fn to_rgba(
     rect: Rect,
     out: &mut [u8],
 ) -> lent::Answer
-    ensures { λ r. ⌜ Outcome (answerOf (toRgbaNumberOf size (toRgbaCountOf size rect) (length (now (y .entry))) (length (now (u .entry))) (length (now (v .entry))) (length (now (out .entry)))) (toRgbaCountOf size rect)) (lentAfter (toRgbaNumberOf size (toRgbaCountOf size rect) (length (now (y .entry))) (length (now (u .entry))) (length (now (v .entry))) (length (now (out .entry)))) (now (out .entry)) (toRgbaOf size (now (y .entry)) (now (u .entry)) (now (v .entry)) rect (now (out .entry))) ∷ []) r (now (out .exit) ∷ []) ⌝ }
+    ensures { λ r. ⌜ ToRgbaOutcome size (now (y .entry)) (now (u .entry)) (now (v .entry)) rect
+        (now (out .entry)) r (now (out .exit) ∷ []) ⌝ }
 {
     let n = clipped(rect.left, rect.right, size.width);
     let h = clipped(rect.top, rect.bottom, size.height);
@@ -134,7 +135,8 @@ fn view_rows(
     h: usize,
 )
     requires { ⌜ ViewRowsFit (length (now out)) (length (now y)) (length (now u)) (length (now v)) luma chroma n h ⌝ }
-    ensures { λ _. ⌜ now (out .exit) ≡ pictured n h (viewPixelAt reverseOf luma chroma (now (y .entry)) (now (u .entry)) (now (v .entry))) (now (out .entry)) ⌝ }
+    ensures { λ _. ⌜ now (out .exit) ≡ pictured n h
+        (viewPixelAt reverseOf luma chroma (now (y .entry)) (now (u .entry)) (now (v .entry))) (now (out .entry)) ⌝ }
 {
     let wide = 4 * n;
     let mut r: usize = 0;
@@ -163,7 +165,8 @@ fn view_to_rgba_number(
     v: &[u8],
     nout: usize,
 ) -> u32
-    ensures { λ r. ⌜ r ≡ viewToRgbaNumberOf w count (length (now (y .entry))) (length (now (u .entry))) (length (now (v .entry))) nout ⌝ }
+    ensures { λ r. ⌜ r ≡ viewToRgbaNumberOf w count
+        (length (now (y .entry))) (length (now (u .entry))) (length (now (v .entry))) nout ⌝ }
 {
     let number = view::view_number(w, y, u, v);
     if number != 0 {
@@ -177,7 +180,8 @@ fn view_to_rgba_number(
 
 // The view as RGBA. Ports `Yuv420Frame::to_rgba`.
 pub fn view_to_rgba(w: view::View, y: &[u8], u: &[u8], v: &[u8], out: &mut [u8]) -> lent::Answer
-    ensures { λ r. ⌜ Outcome (answerOf (viewToRgbaNumberOf w (viewToRgbaCountOf w) (length (now (y .entry))) (length (now (u .entry))) (length (now (v .entry))) (length (now (out .entry)))) (viewToRgbaCountOf w)) (lentAfter (viewToRgbaNumberOf w (viewToRgbaCountOf w) (length (now (y .entry))) (length (now (u .entry))) (length (now (v .entry))) (length (now (out .entry)))) (now (out .entry)) (viewToRgbaOf reverseOf w (now (y .entry)) (now (u .entry)) (now (v .entry)) (now (out .entry))) ∷ []) r (now (out .exit) ∷ []) ⌝ }
+    ensures { λ r. ⌜ ViewToRgbaOutcome reverseOf w (now (y .entry)) (now (u .entry)) (now (v .entry))
+        (now (out .entry)) r (now (out .exit) ∷ []) ⌝ }
 {
     let n = w.width as usize;
     let h = w.height as usize;

@@ -33,7 +33,8 @@ fn smoothed(p: &[u8], at: usize, below: usize) -> u8
 // The pixel at `at`, its chroma filtered.
 pub fn smooth(y: &[u8], u: &[u8], v: &[u8], at: usize, below: usize) -> colour::Rgba
     requires { ⌜ BlockInside (length (now y)) (length (now u)) (length (now v)) at below ⌝ }
-    ensures { λ p. ⌜ p ≡ reverseOf (getD (now (y .entry)) at 0) (filterOf (cornersAt (now (u .entry)) at below)) (filterOf (cornersAt (now (v .entry)) at below)) ⌝ }
+    ensures { λ p. ⌜ p ≡ reverseOf (getD (now (y .entry)) at 0) (filterOf (cornersAt (now (u .entry)) at below))
+        (filterOf (cornersAt (now (v .entry)) at below)) ⌝ }
 {
     let a = smoothed(u, at, below);
     let b = smoothed(v, at, below);

@@ -22,7 +22,9 @@ fn odd_row(
     n: usize,
 )
     requires { ⌜ RowFits (length (now out)) (length (now y)) (length (now u)) (length (now v)) stride stride row left n ⌝ }
-    ensures { λ _. ⌜ (row % 2 ≡ 1 → now (out .exit) ≡ paint every (bytes (rowFrom left (pixelAt stride (now (y .entry)) (now (u .entry)) (now (v .entry)) row))) (now (out .entry))) ⌝ }
+    ensures { λ _. ⌜ (row % 2 ≡ 1 → now (out .exit) ≡ paint every
+        (bytes (rowFrom left (pixelAt stride (now (y .entry)) (now (u .entry)) (now (v .entry)) row)))
+        (now (out .entry))) ⌝ }
 {
     let at = row * stride + left;
     let mut i: usize = 0;
@@ -46,7 +48,8 @@ fn even_head(
 )
     requires { ⌜ RowFits (length (now out)) (length (now y)) (length (now u)) (length (now v)) stride stride row left n ⌝ }
     requires { ⌜ 0 < n ⌝ }
-    ensures { λ _. ⌜ now (out .exit) ≡ done (rowFrom left (pixelAt stride (now (y .entry)) (now (u .entry)) (now (v .entry)) row)) (left % 2) (now (out .entry)) ⌝ }
+    ensures { λ _. ⌜ now (out .exit) ≡ done
+        (rowFrom left (pixelAt stride (now (y .entry)) (now (u .entry)) (now (v .entry)) row)) (left % 2) (now (out .entry)) ⌝ }
 {
     if left % 2 == 1 {
         let at = row * stride + left;
@@ -54,8 +57,8 @@ fn even_head(
     }
 }
 
-// An even row: the pixels of even columns are filtered. What is said of a row holds where it is even. Pairs of an even and an odd column, with an odd first column and an even last one
-// apart.
+// An even row: the pixels of even columns are filtered. What is said of a row holds where it is even. Pairs of an even and an odd column,
+// with an odd first column and an even last one apart.
 fn even_row(
     out: &mut [u8],
     y: &[u8],
@@ -69,7 +72,9 @@ fn even_row(
     requires { ⌜ RowFits (length (now out)) (length (now y)) (length (now u)) (length (now v)) (2 * stride) stride row left n ⌝ }
     requires { ⌜ stride % 2 ≡ 0 ⌝ }
     requires { ⌜ 0 < n ⌝ }
-    ensures { λ _. ⌜ (row % 2 ≡ 0 → now (out .exit) ≡ paint every (bytes (rowFrom left (pixelAt stride (now (y .entry)) (now (u .entry)) (now (v .entry)) row))) (now (out .entry))) ⌝ }
+    ensures { λ _. ⌜ (row % 2 ≡ 0 → now (out .exit) ≡ paint every
+        (bytes (rowFrom left (pixelAt stride (now (y .entry)) (now (u .entry)) (now (v .entry)) row)))
+        (now (out .entry))) ⌝ }
 {
     let at = row * stride + left;
     let first = left % 2;
@@ -105,7 +110,9 @@ pub fn put_row(
 )
     requires { ⌜ PixelRowsFit (length (now out)) (length (now y)) (length (now u)) (length (now v)) stride rows left row n 1 ⌝ }
     requires { ⌜ length (now out) ≡ 4 * n ⌝ }
-    ensures { λ _. ⌜ now (out .exit) ≡ paint every (bytes (rowFrom left (pixelAt stride (now (y .entry)) (now (u .entry)) (now (v .entry)) row))) (now (out .entry)) ⌝ }
+    ensures { λ _. ⌜ now (out .exit) ≡ paint every
+        (bytes (rowFrom left (pixelAt stride (now (y .entry)) (now (u .entry)) (now (v .entry)) row)))
+        (now (out .entry)) ⌝ }
 {
     if row % 2 == 0 {
         // No even row is past rows - 2. Said in the code too: then the compiler's own test that the output overlaps no plane, which it makes

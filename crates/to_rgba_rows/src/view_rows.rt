@@ -22,7 +22,9 @@ pub fn view_row(
     n: usize,
 )
     requires { ⌜ ViewRowFits (length (now out)) (length (now y)) (length (now u)) (length (now v)) luma chroma row n ⌝ }
-    ensures { λ _. ⌜ now (out .exit) ≡ paint every (bytes (viewPixelAt reverseOf luma chroma (now (y .entry)) (now (u .entry)) (now (v .entry)) row)) (now (out .entry)) ⌝ }
+    ensures { λ _. ⌜ now (out .exit) ≡ paint every
+        (bytes (viewPixelAt reverseOf luma chroma (now (y .entry)) (now (u .entry)) (now (v .entry)) row))
+        (now (out .entry)) ⌝ }
 {
     let at = row * luma;
     let half = row / 2 * chroma;

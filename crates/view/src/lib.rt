@@ -94,7 +94,8 @@ pub fn view_number(w: View, y: &[u8], u: &[u8], v: &[u8]) -> u32
 
 // Whether these planes are a view of these sizes (the Rust's Yuv420Frame::new). The count is always 0.
 pub fn new(w: View, y: &[u8], u: &[u8], v: &[u8]) -> lent::Answer
-    ensures { λ r. ⌜ Outcome (answerOf (viewNumberOf w (length (now (y .entry))) (length (now (u .entry))) (length (now (v .entry)))) 0) [] r [] ⌝ }
+    ensures { λ r. ⌜ Outcome (answerOf
+        (viewNumberOf w (length (now (y .entry))) (length (now (u .entry))) (length (now (v .entry)))) 0) [] r [] ⌝ }
 {
     lent::Answer {
         number: view_number(w, y, u, v),

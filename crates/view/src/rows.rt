@@ -70,7 +70,8 @@ fn row_answer(n: u32, p: Plane, len: usize, row: usize) -> Row
 
 // A luma row of the view (the Rust's Yuv420Frame::luma_row).
 pub fn luma_row<'a>(w: View, y: &'a [u8], u: &'a [u8], v: &'a [u8], row: usize) -> &'a [u8]
-    ensures { λ r. ⌜ RowPart (viewNumberOf w (length (now (y .entry))) (length (now (u .entry))) (length (now (v .entry)))) (lumaOf w) row (y .entry) r ⌝ }
+    ensures { λ r. ⌜ RowPart (viewNumberOf w (length (now (y .entry))) (length (now (u .entry))) (length (now (v .entry))))
+        (lumaOf w) row (y .entry) r ⌝ }
 {
     let n = crate::view_number(w, y, u, v);
     row_part(n, crate::luma(w), y, row)
@@ -78,7 +79,8 @@ pub fn luma_row<'a>(w: View, y: &'a [u8], u: &'a [u8], v: &'a [u8], row: usize) 
 
 // A row of U (the Rust's Yuv420Frame::u_row).
 pub fn u_row<'a>(w: View, y: &'a [u8], u: &'a [u8], v: &'a [u8], row: usize) -> &'a [u8]
-    ensures { λ r. ⌜ RowPart (viewNumberOf w (length (now (y .entry))) (length (now (u .entry))) (length (now (v .entry)))) (chromaOf w) row (u .entry) r ⌝ }
+    ensures { λ r. ⌜ RowPart (viewNumberOf w (length (now (y .entry))) (length (now (u .entry))) (length (now (v .entry))))
+        (chromaOf w) row (u .entry) r ⌝ }
 {
     let n = crate::view_number(w, y, u, v);
     row_part(n, crate::chroma(w), u, row)
@@ -86,7 +88,8 @@ pub fn u_row<'a>(w: View, y: &'a [u8], u: &'a [u8], v: &'a [u8], row: usize) -> 
 
 // A row of V (the Rust's Yuv420Frame::v_row).
 pub fn v_row<'a>(w: View, y: &'a [u8], u: &'a [u8], v: &'a [u8], row: usize) -> &'a [u8]
-    ensures { λ r. ⌜ RowPart (viewNumberOf w (length (now (y .entry))) (length (now (u .entry))) (length (now (v .entry)))) (chromaOf w) row (v .entry) r ⌝ }
+    ensures { λ r. ⌜ RowPart (viewNumberOf w (length (now (y .entry))) (length (now (u .entry))) (length (now (v .entry))))
+        (chromaOf w) row (v .entry) r ⌝ }
 {
     let n = crate::view_number(w, y, u, v);
     row_part(n, crate::chroma(w), v, row)
@@ -94,7 +97,8 @@ pub fn v_row<'a>(w: View, y: &'a [u8], u: &'a [u8], v: &'a [u8], row: usize) -> 
 
 // Beside luma_row: the number, and the row's place.
 pub fn luma_row_answer(w: View, y: &[u8], u: &[u8], v: &[u8], row: usize) -> Row
-    ensures { λ r. ⌜ Outcome (rowAnswerOf (viewNumberOf w (length (now (y .entry))) (length (now (u .entry))) (length (now (v .entry)))) (lumaOf w) row) [] r [] ⌝ }
+    ensures { λ r. ⌜ Outcome (rowAnswerOf
+        (viewNumberOf w (length (now (y .entry))) (length (now (u .entry))) (length (now (v .entry)))) (lumaOf w) row) [] r [] ⌝ }
 {
     let n = crate::view_number(w, y, u, v);
     row_answer(n, crate::luma(w), y.len(), row)
@@ -102,7 +106,8 @@ pub fn luma_row_answer(w: View, y: &[u8], u: &[u8], v: &[u8], row: usize) -> Row
 
 // Beside u_row.
 pub fn u_row_answer(w: View, y: &[u8], u: &[u8], v: &[u8], row: usize) -> Row
-    ensures { λ r. ⌜ Outcome (rowAnswerOf (viewNumberOf w (length (now (y .entry))) (length (now (u .entry))) (length (now (v .entry)))) (chromaOf w) row) [] r [] ⌝ }
+    ensures { λ r. ⌜ Outcome (rowAnswerOf
+        (viewNumberOf w (length (now (y .entry))) (length (now (u .entry))) (length (now (v .entry)))) (chromaOf w) row) [] r [] ⌝ }
 {
     let n = crate::view_number(w, y, u, v);
     row_answer(n, crate::chroma(w), u.len(), row)
@@ -110,7 +115,8 @@ pub fn u_row_answer(w: View, y: &[u8], u: &[u8], v: &[u8], row: usize) -> Row
 
 // Beside v_row.
 pub fn v_row_answer(w: View, y: &[u8], u: &[u8], v: &[u8], row: usize) -> Row
-    ensures { λ r. ⌜ Outcome (rowAnswerOf (viewNumberOf w (length (now (y .entry))) (length (now (u .entry))) (length (now (v .entry)))) (chromaOf w) row) [] r [] ⌝ }
+    ensures { λ r. ⌜ Outcome (rowAnswerOf
+        (viewNumberOf w (length (now (y .entry))) (length (now (u .entry))) (length (now (v .entry)))) (chromaOf w) row) [] r [] ⌝ }
 {
     let n = crate::view_number(w, y, u, v);
     row_answer(n, crate::chroma(w), v.len(), row)

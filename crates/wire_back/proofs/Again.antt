@@ -26,7 +26,7 @@ use Rattle.wire_read.proofs.PartsExactly.{copy-0-exactly}
 use Rattle.wire_write.specs.Number.{streamLong, firstCarried, outputShort, writeNumberOf}
 use Rattle.wire_write.specs.Writing.{given, sizesGiven, givenNumberOf, WriteOutcome}
 use Rattle.wire_write.proofs.Ends.{number-is, written, count-is, counted}
-use Rattle.wire_back.specs.Back.{numbersIn, givenIn, AllBelow, Standard, rewrittenOf, sizesAt, WriteAgain, refuses, readWriteNumberOf, RoomFor, ReadWriteEnds}
+use Rattle.wire_back.specs.Back.{numbersIn, givenIn, AllBelow, Standard, rewrittenOf, sizesAt, WriteAgain, refuses, readWriteNumberOf, RoomFor, ReadWriteOutcome}
 use Rattle.wire_back.proofs.Numbers.{pairs-long, h264-long, rects-many, copied}
 use Rattle.wire_back.proofs.Rewritten.{known-kind, even-lists, small-counts, rewritten, rewritten-accepted}
 
@@ -207,7 +207,7 @@ module _ (s ls cs out : List ℕ) where
         (copy-0 s Luma (length ls) none (room .luma-room), (copy-0 s Chroma (length cs) none (room .chroma-room), rewritten-accepted s h none t (length out) (room .out-room)))
 
     -- a refusal is answered with nothing written
-    pub refused-back : {n : ℕ} → n ≡ found → (n ≡ 0 → ⊥) → ReadWriteEnds s ls cs out (record { number = n; count = 0 }) ls cs out
+    pub refused-back : {n : ℕ} → n ≡ found → (n ≡ 0 → ⊥) → ReadWriteOutcome s ls cs out (record { number = n; count = 0 }) ls cs out
     refused-back is some =
         let f : found ≡ 0 → ⊥ = λ z. some (is ∙ z) in
         record {
@@ -250,7 +250,7 @@ module _ (s ls cs out : List ℕ) where
             (n, ap (λ (k : ℕ). take k after) (sym n) ∙ counted (kindOf s) (givenIn s Luma) (givenIn s Chroma) out again all-written ∙ e)
 
         -- all of it: the answer, both lists and the output
-        pub written-back : ReadWriteEnds s ls cs out r ls′ cs′ after
+        pub written-back : ReadWriteOutcome s ls cs out r ls′ cs′ after
         written-back =
             record {
               ends = record {
@@ -265,6 +265,6 @@ module _ (s ls cs out : List ℕ) where
             }
 
 -- the one way in which it ends
-pub read-write-unique : (s ls cs out : List ℕ) (r q : Answer) (x y z x′ y′ z′ : List ℕ) → ReadWriteEnds s ls cs out r x y z → ReadWriteEnds s ls cs out q x′ y′ z′
+pub read-write-unique : (s ls cs out : List ℕ) (r q : Answer) (x y z x′ y′ z′ : List ℕ) → ReadWriteOutcome s ls cs out r x y z → ReadWriteOutcome s ls cs out q x′ y′ z′
     → (r ≡ q) × (x ∷ y ∷ z ∷ [] ≡ x′ ∷ y′ ∷ z′ ∷ [])
 read-write-unique s ls cs out r q x y z x′ y′ z′ a b = (a .ends .answer ∙ sym (b .ends .answer), a .ends .buffers ∙ sym (b .ends .buffers))

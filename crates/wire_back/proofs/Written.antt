@@ -27,7 +27,7 @@ use Rattle.wire_write.proofs.Exactly.{even-exactly}
 use Rattle.wire_write.proofs.NumberLaws.{Writable, write-0-exactly, size-small, luma-count-small, chroma-count-small}
 use Rattle.wire_write.specs.Writing.{Given, sizesGiven, partsGiven, sizeFor, payloadOf, givenNumberOf, WriteOutcome}
 use Rattle.wire_write.proofs.Ends.{number-is, written, counted, count-fits}
-use Rattle.wire_back.specs.Back.{Back, WriteReadEnds}
+use Rattle.wire_back.specs.Back.{Back, WriteReadOutcome}
 
 -- ---- the parts of a stream
 
@@ -160,7 +160,7 @@ written-read kind l c n zero-number rest = go kind (write-0-exactly kind (sizesG
 -- ---- a call that writes and reads
 
 module _ (kind : ℕ) (l c : Given) (out : List ℕ) {w : Answer} {after : List ℕ} (o : WriteOutcome kind l c out w (after ∷ [])) where
-  pub refused-ends : {r : Avc444} → (w .number ≡ 0 → ⊥) → r ≡ refusedWith (w .number) → WriteReadEnds kind l c out r after
+  pub refused-ends : {r : Avc444} → (w .number ≡ 0 → ⊥) → r ≡ refusedWith (w .number) → WriteReadOutcome kind l c out r after
   refused-ends {r} some e =
       let n = givenNumberOf kind l c (length out) in
       let some-number : n ≡ 0 → ⊥ = λ z. some (number-is kind l c out o ∙ z) in
@@ -179,7 +179,7 @@ module _ (kind : ℕ) (l c : Given) (out : List ℕ) {w : Answer} {after : List 
     pub fits : w .count ≤ length after
     fits = count-fits kind l c out o zero-number
 
-    pub read-ends : {r : Avc444} → r ≡ readOf (take (w .count - 0) after) → WriteReadEnds kind l c out r after
+    pub read-ends : {r : Avc444} → r ≡ readOf (take (w .count - 0) after) → WriteReadOutcome kind l c out r after
     read-ends {r} e =
         let n = givenNumberOf kind l c (length out) in
         let all : w .count - 0 ≡ w .count = omega arith in
@@ -194,5 +194,5 @@ module _ (kind : ℕ) (l c : Given) (out : List ℕ) {w : Answer} {after : List 
         }
 
 -- the one way in which it ends
-pub write-read-unique : (kind : ℕ) (l c : Given) (out : List ℕ) (r q : Avc444) (x y : List ℕ) → WriteReadEnds kind l c out r x → WriteReadEnds kind l c out q y → (r ≡ q) × (x ≡ y)
+pub write-read-unique : (kind : ℕ) (l c : Given) (out : List ℕ) (r q : Avc444) (x y : List ℕ) → WriteReadOutcome kind l c out r x → WriteReadOutcome kind l c out q y → (r ≡ q) × (x ≡ y)
 write-read-unique kind l c out r q x y a b = let e = a .ends .buffers in let f = b .ends .buffers in (a .ends .answer ∙ sym (b .ends .answer), cc)

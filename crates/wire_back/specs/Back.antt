@@ -5,7 +5,7 @@
 --   Back s a kind l c           a reader's answer a gives back from s what was given: the kind, and the parts of each stream that is carried;
 --                               the other one stands nowhere
 --   writeReadOf kind l c n      the answer of a call that writes into n bytes and reads what it wrote
---   WriteReadEnds kind l c out  how that call ends: by the definitions of the two calls, and with `Back` where nothing was refused
+--   WriteReadOutcome kind l c out    how that call ends: by the definitions of the two calls, and with `Back` where nothing was refused
 --   numbersIn bs                the numbers of 16 bits whose bytes these are
 --   givenIn s w                 the parts of a payload's stream, as they are given to a writer
 --   AllBelow k ns               each number is below k: bytes are below 256, numbers of 16 bits below 2^16
@@ -20,7 +20,7 @@
 --                               writer, into k bytes
 --   readWriteBuffersOf n ...    both lists and the output after it, the number being n
 --   RoomFor s ls cs out         each list has room for its rectangles, and the output for the payload
---   ReadWriteEnds s ls cs out   how that call ends: by the definitions of the calls, a refusal altering no lent byte; and a standard payload
+--   ReadWriteOutcome s ls cs out   how that call ends: by the definitions of the calls, a refusal altering no lent byte; and a standard payload
 --                               that is accepted is not refused where there is room, and what is written of it is the payload itself
 use Prim.Native.Nat.{ℕ, _*_, _^_, _≤_, _<_}
 use mathlib.Core.Path.{_≡_}
@@ -53,7 +53,7 @@ pub record Back (s : List ℕ) (a : Avc444) (kind : ℕ) (l c : Given) : Type 0 
 abbrev pub writeReadOf : ℕ → Given → Given → ℕ → Avc444
 writeReadOf kind l c n = cond (eqb (givenNumberOf kind l c n) 0) (readOf (payloadOf kind l c)) (refusedWith (givenNumberOf kind l c n))
 
-pub record WriteReadEnds (kind : ℕ) (l c : Given) (out : List ℕ) (r : Avc444) (after : List ℕ) : Type 0 where
+pub record WriteReadOutcome (kind : ℕ) (l c : Given) (out : List ℕ) (r : Avc444) (after : List ℕ) : Type 0 where
   pub ends : Outcome (writeReadOf kind l c (length out))
       (lentAfter (givenNumberOf kind l c (length out)) out (payloadOf kind l c ++ drop (length (payloadOf kind l c)) out) ∷ []) r (after ∷ [])
   pub back : givenNumberOf kind l c (length out) ≡ 0 → Back after r kind l c
@@ -100,7 +100,7 @@ pub record RoomFor (s ls cs out : List ℕ) : Type 0 where
   pub chroma-room : 4 * placesOf s Chroma .count ≤ length cs
   pub out-room : length s ≤ length out
 
-pub record ReadWriteEnds (s ls cs out : List ℕ) (r : Answer) (ls′ cs′ after : List ℕ) : Type 0 where
+pub record ReadWriteOutcome (s ls cs out : List ℕ) (r : Answer) (ls′ cs′ after : List ℕ) : Type 0 where
   pub ends : Outcome (answerOf (readWriteNumberOf s (length ls) (length cs) (length out)) (length (rewrittenOf s)))
       (readWriteBuffersOf (readWriteNumberOf s (length ls) (length cs) (length out)) s ls cs out) r (ls′ ∷ cs′ ∷ after ∷ [])
   pub accepted : readNumberOf s ≡ 0 → Standard s → RoomFor s ls cs out → r .number ≡ 0

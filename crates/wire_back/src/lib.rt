@@ -4,7 +4,7 @@ ghost use mathlib.Core.Path.{_≡_};
 ghost use mathlib.Core.List.{[], _∷_};
 ghost use Prim.Native.Nat.{_*_, _^_, _<_};
 ghost use Rattle.wire_write.specs.Writing.{given};
-ghost use Rattle.wire_back.specs.Back.{WriteReadEnds, sizesAt, WriteAgain, readWriteNumberOf, ReadWriteEnds};
+ghost use Rattle.wire_back.specs.Back.{WriteReadOutcome, sizesAt, WriteAgain, readWriteNumberOf, ReadWriteOutcome};
 use wire_read::parts::Which;
 use wire_write::number::StreamSizes;
 
@@ -19,7 +19,7 @@ pub fn write_read(
     chroma_data: &[u8],
     out: &mut [u8],
 ) -> wire_read::Avc444
-    ensures { λ r. ⌜ WriteReadEnds kind (given (now («luma_rects» .entry)) (now («luma_pairs» .entry)) (now («luma_data» .entry)))
+    ensures { λ r. ⌜ WriteReadOutcome kind (given (now («luma_rects» .entry)) (now («luma_pairs» .entry)) (now («luma_data» .entry)))
         (given (now («chroma_rects» .entry)) (now («chroma_pairs» .entry)) (now («chroma_data» .entry)))
         (now (out .entry)) r (now (out .exit)) ⌝ }
 {
@@ -101,7 +101,7 @@ pub fn read_write(
     chroma_rects: &mut [u16],
     out: &mut [u8],
 ) -> lent::Answer
-    ensures { λ r. ⌜ ReadWriteEnds (now (payload .entry)) (now («luma_rects» .entry)) (now («chroma_rects» .entry)) (now (out .entry))
+    ensures { λ r. ⌜ ReadWriteOutcome (now (payload .entry)) (now («luma_rects» .entry)) (now («chroma_rects» .entry)) (now (out .entry))
         r (now («luma_rects» .exit)) (now («chroma_rects» .exit)) (now (out .exit)) ⌝ }
 {
     let number = read_write_number(payload, luma_rects.len(), chroma_rects.len(), out.len());

@@ -18,7 +18,7 @@ use Rattle.wire_read.specs.Reading.{kindOf, firstSizeOf, streamsPast, re
 use Rattle.wire_read.specs.declared.parts.Which.{Which}
 use Rattle.wire_read.specs.declared.parts.Rectangle.{Rectangle}
 use Rattle.wire_read.specs.declared.parts.Pair.{Pair}
-use Rattle.wire_read.specs.Parts.{placesOf, partsOf, rectangleIn, noRectangle, rectangleAtOf, pairIn, noPair, pairAtOf, numbersOf, copyNumberOf, CopyOutcome}
+use Rattle.wire_read.specs.Parts.{placesOf, partsOf, rectangleIn, noRectangle, rectangleAtOf, pairIn, noPair, pairAtOf, numbersOf, copyNumberOf, CopyRectsOutcome}
 use Rattle.wire_read.proofs.PartLaws.{copy-first, copy-6, copy-0}
 
 -- ---- one end
@@ -47,7 +47,7 @@ module _ (s : List ℕ) (w : Which) where
   pub pair-unique : (i : ℕ) (r q : Pair) → Outcome (pairAtOf s w i) [] r [] → Outcome (pairAtOf s w i) [] q [] → r ≡ q
   pair-unique i r q x y = outcome-unique (pairAtOf s w) (λ k. []) i r q [] [] x y .0
 
-  pub copy-unique : (out : List ℕ) (r q : Answer) (rs qs : List (List ℕ)) → CopyOutcome s w out r rs → CopyOutcome s w out q qs → (r ≡ q) × (rs ≡ qs)
+  pub copy-unique : (out : List ℕ) (r q : Answer) (rs qs : List (List ℕ)) → CopyRectsOutcome s w out r rs → CopyRectsOutcome s w out q qs → (r ≡ q) × (rs ≡ qs)
   copy-unique =
       outcome-unique (λ (out : List ℕ). answerOf (copyNumberOf s w (length out)) (4 * placesOf s w .count))
       (λ (out : List ℕ). lentAfter (copyNumberOf s w (length out)) out (numbersOf s w out) ∷ [])

@@ -9,7 +9,7 @@
 --   pairAtOf s w i                  pair i: a quantiser byte and a quality byte
 --   numbersOf s w out               out with the rectangles' numbers in front, four for each
 --   copyNumberOf s w n              the payload's number, then 6: n numbers are fewer than the rectangles have
---   CopyOutcome s w out             how the copy ends, refusals included
+--   CopyRectsOutcome s w out        how the copy ends, refusals included
 use Prim.Native.Nat.{ℕ, _+_, _*_, _-_}
 use mathlib.Core.Bool.{Bool, true, false, cond, not}
 use mathlib.Core.List.{List, [], _∷_}
@@ -96,6 +96,6 @@ numbersOf s w out = paint (λ k. ltb k (4 * placesOf s w .count)) (λ k. u16At s
 unfoldable pub copyNumberOf : List ℕ → Which → ℕ → ℕ
 copyNumberOf s w n = refusal ((not (eqb (readNumberOf s) 0), readNumberOf s) ∷ (ltb n (4 * placesOf s w .count), 6) ∷ [])
 
-abbrev pub CopyOutcome : List ℕ → Which → List ℕ → Answer → List (List ℕ) → Type 0
-CopyOutcome s w out =
+abbrev pub CopyRectsOutcome : List ℕ → Which → List ℕ → Answer → List (List ℕ) → Type 0
+CopyRectsOutcome s w out =
     Outcome (answerOf (copyNumberOf s w (length out)) (4 * placesOf s w .count)) (lentAfter (copyNumberOf s w (length out)) out (numbersOf s w out) ∷ [])

@@ -12,7 +12,7 @@ ghost use Rattle.lent.specs.Outcome.{Outcome, OwnPart};
 ghost use Rattle.lent.specs.Paint.{paint};
 ghost use Rattle.wire_fields.specs.Fields.{u16At};
 ghost use Rattle.wire_read.specs.Reading.{readNumberOf, PartsInside};
-ghost use Rattle.wire_read.specs.Parts.{placesOf, hereIn, partsOf, rectangleAtOf, pairAtOf, CopyOutcome};
+ghost use Rattle.wire_read.specs.Parts.{placesOf, hereIn, partsOf, rectangleAtOf, pairAtOf, CopyRectsOutcome};
 use crate::Stream;
 
 // One of the two streams that a payload may carry.
@@ -87,7 +87,8 @@ fn cut<'a>(payload: &'a [u8], start: usize, n: usize) -> &'a [u8]
 
 // The rectangles of a stream, eight bytes each.
 pub fn rects<'a>(payload: &'a [u8], which: Which) -> &'a [u8]
-    ensures { λ r. ⌜ OwnPart (payload .entry) r (placesOf (now (payload .entry)) which .rects) (partsOf (now (payload .entry)) which .rects) ⌝ }
+    ensures { λ r. ⌜ OwnPart (payload .entry) r (placesOf (now (payload .entry)) which .rects)
+        (partsOf (now (payload .entry)) which .rects) ⌝ }
 {
     let x = find(payload, which).places;
     cut(payload, x.rects, 8 * x.count)
@@ -95,7 +96,8 @@ pub fn rects<'a>(payload: &'a [u8], which: Which) -> &'a [u8]
 
 // The pairs of a stream, two bytes each.
 pub fn pairs<'a>(payload: &'a [u8], which: Which) -> &'a [u8]
-    ensures { λ r. ⌜ OwnPart (payload .entry) r (placesOf (now (payload .entry)) which .pairs) (partsOf (now (payload .entry)) which .pairs) ⌝ }
+    ensures { λ r. ⌜ OwnPart (payload .entry) r (placesOf (now (payload .entry)) which .pairs)
+        (partsOf (now (payload .entry)) which .pairs) ⌝ }
 {
     let x = find(payload, which).places;
     cut(payload, x.pairs, 2 * x.count)
@@ -103,7 +105,8 @@ pub fn pairs<'a>(payload: &'a [u8], which: Which) -> &'a [u8]
 
 // The H.264 bytes of a stream.
 pub fn h264<'a>(payload: &'a [u8], which: Which) -> &'a [u8]
-    ensures { λ r. ⌜ OwnPart (payload .entry) r (placesOf (now (payload .entry)) which .«data») (partsOf (now (payload .entry)) which .h264) ⌝ }
+    ensures { λ r. ⌜ OwnPart (payload .entry) r (placesOf (now (payload .entry)) which .«data»)
+        (partsOf (now (payload .entry)) which .h264) ⌝ }
 {
     let x = find(payload, which).places;
     cut(payload, x.data, x.length)
@@ -180,7 +183,7 @@ fn put_numbers(s: &[u8], at: usize, out: &mut [u16], n: usize)
 
 // The rectangles of a stream as numbers in fours, as the apply calls take them. The count is the numbers written.
 pub fn copy_rects(payload: &[u8], which: Which, out: &mut [u16]) -> lent::Answer
-    ensures { λ r. ⌜ CopyOutcome (now (payload .entry)) which (now (out .entry)) r (now (out .exit) ∷ []) ⌝ }
+    ensures { λ r. ⌜ CopyRectsOutcome (now (payload .entry)) which (now (out .entry)) r (now (out .exit) ∷ []) ⌝ }
 {
     let here = find(payload, which);
     if here.number != 0 {

@@ -18,8 +18,10 @@ use crate::number::StreamSizes;
 
 // dst becomes the stream, or it is empty where the stream is not carried.
 fn put_carried(is: bool, dst: &mut [u8], rects: &[u16], pairs: &[u8], data: &[u8])
-    requires { ⌜ (length (now dst) ≡ cond is (streamLength (length (now rects)) (length (now pairs)) (length (now «data»))) 0) × (is ≡ true → length (now rects) / 4 < 2 ^ 32) ⌝ }
-    ensures { λ _. ⌜ now (dst .exit) ≡ cond is (bytesOf (partsFrom (now (rects .entry)) (now (pairs .entry)) (now («data» .entry)))) [] ⌝ }
+    requires { ⌜ (length (now dst) ≡ cond is (streamLength (length (now rects)) (length (now pairs)) (length (now «data»))) 0)
+        × (is ≡ true → length (now rects) / 4 < 2 ^ 32) ⌝ }
+    ensures { λ _. ⌜ now (dst .exit) ≡ cond is
+        (bytesOf (partsFrom (now (rects .entry)) (now (pairs .entry)) (now («data» .entry)))) [] ⌝ }
 {
     if is {
         crate::put::put_stream(dst, rects, pairs, data);
@@ -50,8 +52,10 @@ fn put_payload(
     middle: usize,
     end: usize,
 )
-    requires { ⌜ Placed kind (given (now «luma_rects») (now «luma_pairs») (now «luma_data»)) (given (now «chroma_rects») (now «chroma_pairs») (now «chroma_data»)) middle end (length (now out)) ⌝ }
-    ensures { λ _. ⌜ now (out .exit) ≡ payloadOf kind (given (now («luma_rects» .entry)) (now («luma_pairs» .entry)) (now («luma_data» .entry)))
+    requires { ⌜ Placed kind (given (now «luma_rects») (now «luma_pairs») (now «luma_data»))
+        (given (now «chroma_rects») (now «chroma_pairs») (now «chroma_data»)) middle end (length (now out)) ⌝ }
+    ensures { λ _. ⌜ now (out .exit) ≡ payloadOf kind
+        (given (now («luma_rects» .entry)) (now («luma_pairs» .entry)) (now («luma_data» .entry)))
         (given (now («chroma_rects» .entry)) (now («chroma_pairs» .entry)) (now («chroma_data» .entry))) ++ drop end (now (out .entry)) ⌝ }
 {
     let size = (middle - 4) as u32;

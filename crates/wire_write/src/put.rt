@@ -21,7 +21,8 @@ fn put_numbers(dst: &mut [u8], numbers: &[u16])
 
 // dst becomes the stream.
 pub fn put_stream(dst: &mut [u8], rects: &[u16], pairs: &[u8], data: &[u8])
-    requires { ⌜ (length (now dst) ≡ streamLength (length (now rects)) (length (now pairs)) (length (now «data»))) × (length (now rects) / 4 < 2 ^ 32) ⌝ }
+    requires { ⌜ (length (now dst) ≡ streamLength (length (now rects)) (length (now pairs)) (length (now «data»)))
+        × (length (now rects) / 4 < 2 ^ 32) ⌝ }
     ensures { λ _. ⌜ now (dst .exit) ≡ bytesOf (partsFrom (now (rects .entry)) (now (pairs .entry)) (now («data» .entry))) ⌝ }
 {
     let count = (rects.len() / 4) as u32;

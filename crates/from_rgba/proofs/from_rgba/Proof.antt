@@ -9,7 +9,7 @@ use Rattle.from_rgba.specs.Averaged.{averaged}
 use Rattle.picture.specs.Sizes.{strideOf, rowsOf, PlanesFit, planeOf}
 use Rattle.from_rgba.specs.FromRgba.{lumaPlane, chromaUPlane, chromaVPlane, fromNumberOf, fromBuffersOf}
 use Rattle.picture.proofs.Calls.{refused, done}
-use Rattle.from_rgba.proofs.FromOutcome.{from-0-exactly, plane-averaged}
+use Rattle.from_rgba.proofs.FromRgbaOutcome.{from-0-exactly, plane-averaged}
 use borrow.Author.Needs.{needs}
 use Rattle.from_rgba.proofs.from_rgba.Statement.{statement}
 use Rattle.from_rgba.proofs.from_rgba.Tie as tie

@@ -8,7 +8,7 @@ use mathlib.Core.Bool.{true, false, cond}
 use mathlib.Core.Logic.{_↔_, _⊎_, Iff·trans, Iff·and, true-and, and-true}
 use mathlib.Core.List.{List, [], _∷_}
 use lib.ListN.{length, getD}
-use Rattle.lent.specs.Outcome.{Outcome, answerOf, lentAfter}
+use Rattle.lent.specs.Outcome.{answerOf, lentAfter}
 use Rattle.lent.specs.Paint.{painted, whole}
 use Rattle.lent.specs.Refusal.{refusal}
 use Rattle.lent.specs.Samples.{sample}
@@ -23,7 +23,7 @@ use Rattle.colour.specs.declared.Yuv.{Yuv}
 use Rattle.from_rgba.specs.Averaged.{averaged}
 use Rattle.picture.specs.declared.Size.{Size}
 use Rattle.picture.specs.Sizes.{strideOf, rowsOf, planesShort, PlanesFit, planeOf}
-use Rattle.from_rgba.specs.FromRgba.{convertedOf, inPicture, SamePixels, rgbaShort, fromNumberOf, fromBuffersOf}
+use Rattle.from_rgba.specs.FromRgba.{convertedOf, inPicture, SamePixels, rgbaShort, fromNumberOf, fromBuffersOf, FromRgbaOutcome}
 use Rattle.from_rgba.proofs.Blocks.{averaged-painted}
 use Rattle.from_rgba.specs.Rows.{colourAt}
 use Rattle.from_rgba.proofs.Padding.{inside-facts}
@@ -53,8 +53,9 @@ fromAnswerOf i = answerOf (fromNumberOf (i .1) (length (i .0)) (length (i .2)) (
 abbrev pub fromBuffers : FromInput → List (List ℕ)
 fromBuffers i = fromBuffersOf (i .0) (i .1) (i .2) (i .3) (i .4)
 
-pub from-unique : (i : FromInput) (r q : Answer) (rs qs : List (List ℕ)) → Outcome (fromAnswerOf i) (fromBuffers i) r rs → Outcome (fromAnswerOf i) (fromBuffers i) q qs → (r ≡ q) × (rs ≡ qs)
-from-unique = outcome-unique fromAnswerOf fromBuffers
+pub from-unique : (px : List ℕ) (z : Size) (y u v : List ℕ) (r q : Answer) (rs qs : List (List ℕ))
+    → FromRgbaOutcome px z y u v r rs → FromRgbaOutcome px z y u v q qs → (r ≡ q) × (rs ≡ qs)
+from-unique px z y u v = outcome-unique fromAnswerOf fromBuffers (px, z, y, u, v)
 
 -- a plane that was written whole, then averaged
 pub plane-averaged : (z : Size) (p : ℕ → ℕ → ℕ) (xs : List ℕ) {ys zs : List ℕ} {stride rows : ℕ} → rowsOf z * strideOf z ≤ length xs → stride ≡ strideOf z → rows ≡ rowsOf z
