@@ -22,7 +22,7 @@ use Rattle.layout.specs.Maps.{PY}
 use Rattle.split.specs.Split.{Planes, planes, mainSample}
 use Rattle.agree_law.specs.Agrees.{Picture, widened, Agrees}
 use Rattle.agree_law.specs.Through.{buffersIn, threeOf, mainViewOf, auxiliaryViewOf, throughOf, laidOver, throughNumberOf, Lent}
-use Rattle.agree_law.specs.Both.{bothNumberOf, bothBuffersOf, BothEnds}
+use Rattle.agree_law.specs.Both.{bothNumberOf, bothBuffersOf, BothOutcome}
 use Rattle.agree_law.proofs.Number.{first-zero, through-0-exactly}
 use Rattle.agree_law.proofs.Calls.{written, lent-agrees}
 
@@ -63,7 +63,7 @@ through-laid t z rects p m a q none =
     let f = through-0-exactly z rects p m a q t .0 none in
     λ i. planes (luma-laid t z rects p m a q f i) (u-laid t z rects p m a q f i) (v-laid t z rects p m a q f i)
 
-module _ (z : Size) (rects : List ℕ) (p m a q q′ : Planes) (r : Answer) (m′ a′ x x′ : Planes) (both : BothEnds z rects p m a q q′ r m′ a′ x x′) (done : r .number ≡ 0) where
+module _ (z : Size) (rects : List ℕ) (p m a q q′ : Planes) (r : Answer) (m′ a′ x x′ : Planes) (both : BothOutcome z rects p m a q q′ r m′ a′ x x′) (done : r .number ≡ 0) where
   none : bothNumberOf z rects p m a q q′ ≡ 0
   none = sym (ap (λ (n : Answer). n .number) (both .ends .answer)) ∙ done
 
@@ -83,7 +83,7 @@ module _ (z : Size) (rects : List ℕ) (p m a q q′ : Planes) (r : Answer) (m�
   )
 
 -- one earlier picture, lent twice: the two layouts leave the same three buffers, to the last byte
-pub both-alike : (z : Size) (rects : List ℕ) (p m a q : Planes) (r : Answer) (m′ a′ x x′ : Planes) → BothEnds z rects p m a q q r m′ a′ x x′ → r .number ≡ 0
+pub both-alike : (z : Size) (rects : List ℕ) (p m a q : Planes) (r : Answer) (m′ a′ x x′ : Planes) → BothOutcome z rects p m a q q r m′ a′ x x′ → r .number ≡ 0
     → (x .y ≡ x′ .y) × (x .u ≡ x′ .u) × (x .v ≡ x′ .v)
 both-alike z rects p m a q r m′ a′ x x′ both done =
     let laid = both-laid z rects p m a q q r m′ a′ x x′ both done in

@@ -20,7 +20,7 @@ use Rattle.wire_read.specs.declared.Avc444.{Avc444}
 use Rattle.wire_read.specs.Reading.{kindOf, readNumberOf, refusedWith, carriedOf, readOf}
 use Rattle.wire_read.specs.declared.parts.Which.{Which}
 use Rattle.wire_read.specs.declared.parts.Which.the-variants.{Luma, Chroma}
-use Rattle.wire_read.specs.Parts.{placesOf, partsOf, numbersOf, copyNumberOf, CopyOutcome}
+use Rattle.wire_read.specs.Parts.{placesOf, partsOf, numbersOf, copyNumberOf, CopyRectsOutcome}
 use Rattle.wire_read.proofs.PartLaws.{copy-first, copy-6, copy-0}
 use Rattle.wire_read.proofs.PartsExactly.{copy-0-exactly}
 use Rattle.wire_write.specs.Number.{streamLong, firstCarried, outputShort, writeNumberOf}
@@ -155,7 +155,7 @@ module _ (s : List ℕ) (n m k : ℕ) (h : AllBelow 256 s) where
 
 -- ---- a list after its copy
 
-module _ (s : List ℕ) (w : Which) (ls : List ℕ) {r : Answer} {after : List ℕ} (o : CopyOutcome s w ls r (after ∷ [])) where
+module _ (s : List ℕ) (w : Which) (ls : List ℕ) {r : Answer} {after : List ℕ} (o : CopyRectsOutcome s w ls r (after ∷ [])) where
   -- the list is all that the copy leaves
   list-after : after ≡ lentAfter (copyNumberOf s w (length ls)) ls (numbersOf s w ls)
   list-after = let e = o .buffers in cc
@@ -234,7 +234,7 @@ module _ (s ls cs out : List ℕ) where
       accepted-read = copy-0-exactly s Luma (length ls) .0 luma-copied .0
 
       -- from what the three calls answered: p and q for the copies, r for the writer
-      module _ {p q r : Answer} {ls′ cs′ after : List ℕ} (l : CopyOutcome s Luma ls p (ls′ ∷ [])) (c : CopyOutcome s Chroma cs q (cs′ ∷ []))
+      module _ {p q r : Answer} {ls′ cs′ after : List ℕ} (l : CopyRectsOutcome s Luma ls p (ls′ ∷ [])) (c : CopyRectsOutcome s Chroma cs q (cs′ ∷ []))
           (o : WriteAgain s (take (p .count - 0) ls′) (take (q .count - 0) cs′) out r (after ∷ [])) where
         -- the writer was given what was read
         again : WriteOutcome (kindOf s) (givenIn s Luma) (givenIn s Chroma) out r (after ∷ [])
