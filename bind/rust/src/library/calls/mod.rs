@@ -8,20 +8,20 @@
 //! slice no byte is touched. Nothing else is asked: every call is proved for all numbers, lengths and contents, touches the slices
 //! alone, keeps no pointer, and ends.
 
+mod annex_b;
+mod apply;
 mod avc444;
-mod combine;
-mod convert;
-mod payload;
 mod picture;
 mod split;
+mod to_rgba;
 mod view;
 
+pub use annex_b::*;
+pub use apply::*;
 pub use avc444::*;
-pub use combine::*;
-pub use convert::*;
-pub use payload::*;
 pub use picture::*;
 pub use split::*;
+pub use to_rgba::*;
 pub use view::*;
 
 /// What a call that writes answers: 0 or the number of a refusal, and how many elements of the slice were written.

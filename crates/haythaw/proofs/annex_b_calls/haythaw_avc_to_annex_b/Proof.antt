@@ -1,7 +1,7 @@
 -- `haythaw_avc_to_annex_b` meets its contract: it hands all over, and hands back what it is given.
 -- Assumes nothing.
-use Rattle.haythaw.proofs.payload_calls.haythaw_avc_to_annex_b.Statement.{statement}
-use Rattle.haythaw.proofs.payload_calls.haythaw_avc_to_annex_b.Tie as tie
+use Rattle.haythaw.proofs.annex_b_calls.haythaw_avc_to_annex_b.Statement.{statement}
+use Rattle.haythaw.proofs.annex_b_calls.haythaw_avc_to_annex_b.Tie as tie
 
 avc-to-annex-b-into-requires : tie.Need-avc-to-annex-b-into-requires
 avc-to-annex-b-into-requires c κs = tt

@@ -1,8 +1,8 @@
--- `haythaw_apply_auxiliary_v1` meets its contract: it hands all over, and of the answer it hands back the number.
+-- `haythaw_apply_auxiliary_v2` meets its contract: it hands all over, and of the answer it hands back the number.
 -- Assumes nothing.
 use Rattle.haythaw.proofs.Numbers.{number-alone}
-use Rattle.haythaw.proofs.combine_calls.haythaw_apply_auxiliary_v1.Statement.{statement}
-use Rattle.haythaw.proofs.combine_calls.haythaw_apply_auxiliary_v1.Tie as tie
+use Rattle.haythaw.proofs.apply_calls.haythaw_apply_auxiliary_v2.Statement.{statement}
+use Rattle.haythaw.proofs.apply_calls.haythaw_apply_auxiliary_v2.Tie as tie
 
 -- the call, seen from the return
 abbrev call : tie.After-slice-known6 → tie.After-apply-auxiliary-view
@@ -23,5 +23,5 @@ same-length-3 c = call c .apply-auxiliary-view .kept .1 .1 .1 .1 .0
 returns : tie.Need-returns
 returns c = number-alone (call c .apply-auxiliary-view .ensures)
 
-pub haythaw-apply-auxiliary-v1-spec : {M : Type 1} → statement M
-haythaw-apply-auxiliary-v1-spec = tie.close (tie.spec apply-auxiliary-view-requires same-length same-length-2 same-length-3 returns)
+pub haythaw-apply-auxiliary-v2-spec : {M : Type 1} → statement M
+haythaw-apply-auxiliary-v2-spec = tie.close (tie.spec apply-auxiliary-view-requires same-length same-length-2 same-length-3 returns)

@@ -1,8 +1,8 @@
 -- `haythaw_apply_main_view` meets its contract: it hands all over, and of the answer it hands back the number.
 -- Assumes nothing.
 use Rattle.haythaw.proofs.Numbers.{number-alone}
-use Rattle.haythaw.proofs.combine_calls.haythaw_apply_main_view.Statement.{statement}
-use Rattle.haythaw.proofs.combine_calls.haythaw_apply_main_view.Tie as tie
+use Rattle.haythaw.proofs.apply_calls.haythaw_apply_main_view.Statement.{statement}
+use Rattle.haythaw.proofs.apply_calls.haythaw_apply_main_view.Tie as tie
 
 -- the call, seen from the return
 abbrev call : tie.After-slice-known6 → tie.After-apply-main-view

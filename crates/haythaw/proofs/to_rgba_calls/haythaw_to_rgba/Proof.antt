@@ -1,7 +1,7 @@
 -- `haythaw_to_rgba` meets its contract: it hands all over, and hands back what it is given.
 -- Assumes nothing.
-use Rattle.haythaw.proofs.convert_calls.haythaw_to_rgba.Statement.{statement}
-use Rattle.haythaw.proofs.convert_calls.haythaw_to_rgba.Tie as tie
+use Rattle.haythaw.proofs.to_rgba_calls.haythaw_to_rgba.Statement.{statement}
+use Rattle.haythaw.proofs.to_rgba_calls.haythaw_to_rgba.Tie as tie
 
 to-rgba-requires : tie.Need-to-rgba-requires
 to-rgba-requires c κs = tt
