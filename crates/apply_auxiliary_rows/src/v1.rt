@@ -47,9 +47,11 @@ fn v1_odd_row(
     if stop <= left {
         return;
     }
-    let stride = picture::stride(size);
-    let rows = picture::rows(size);
-    columns::put_copy(dst, stride, rows, vy, at, row, left, stop);
+    let line = row * picture::stride(size);
+    lent::copy(
+        &mut dst[line + left..line + stop],
+        &vy[at + left..at + stop],
+    );
 }
 
 // V1, the odd columns of an even row: from the view's row of the same chroma plane, whose samples these are.
@@ -77,9 +79,11 @@ fn v1_even_row(
     if stop <= left {
         return;
     }
-    let stride = picture::stride(size);
-    let rows = picture::rows(size);
-    columns::put_odds(dst, stride, rows, samples, at, row, left, stop);
+    let line = row * picture::stride(size);
+    columns::put_odds(
+        &mut dst[line + left..line + stop],
+        &samples[at + left / 2..at + stop / 2],
+    );
 }
 
 // V1, one row of a chroma plane (the loop's body in the Rust's apply_auxiliary_v1).

@@ -43,9 +43,11 @@ fn v2_odds(
         return;
     }
     let at = start + layout::second(which, layout::v2_width(w.width) / 2);
-    let stride = picture::stride(size);
-    let rows = picture::rows(size);
-    columns::put_odds(dst, stride, rows, vy, at, row, left, stop);
+    let line = row * picture::stride(size);
+    columns::put_odds(
+        &mut dst[line + left..line + stop],
+        &vy[at + left / 2..at + stop / 2],
+    );
 }
 
 // V2, the even columns of an odd row: from the view's U and V rows by turns, of which U has the first half and V the second.
@@ -79,9 +81,12 @@ fn v2_evens(
         return;
     }
     let at = start + layout::second(which, layout::v2_width(w.width) / 4);
-    let stride = picture::stride(size);
-    let rows = picture::rows(size);
-    columns::put_evens(dst, stride, rows, vu, vv, at, row, left, stop);
+    let from = at + left / 4;
+    let to = at + (stop / 2 + 1) / 2;
+    let u = &vu[from..to];
+    let v = &vv[from..to];
+    let line = row * picture::stride(size);
+    columns::put_evens(&mut dst[line + left..line + stop], u, v, left / 2 % 2);
 }
 
 // V2, an odd row, in one pass as far as all its columns exist. Answers the column at which it stopped: what is left has one kind at most.
@@ -118,11 +123,15 @@ fn v2_together(
         return left;
     };
     let wide = layout::v2_width(w.width);
-    let from = luma + layout::second(which, wide / 2);
+    let own = luma + layout::second(which, wide / 2);
+    let odds = &vy[own + left / 2..own + stop / 2];
     let at = chroma + layout::second(which, wide / 4);
-    let stride = picture::stride(size);
-    let rows = picture::rows(size);
-    columns::put_full(dst, stride, rows, vy, from, vu, vv, at, row, left, stop);
+    let from = at + left / 4;
+    let to = at + (stop / 2 + 1) / 2;
+    let u = &vu[from..to];
+    let v = &vv[from..to];
+    let line = row * picture::stride(size);
+    columns::put_full(&mut dst[line + left..line + stop], odds, u, v, left / 2 % 2);
     stop
 }
 

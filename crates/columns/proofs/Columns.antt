@@ -1,106 +1,82 @@
--- Loops over the columns of one row, each turn through a lent part: what a turn leaves, and what it asks. Assumes nothing.
-use Prim.Native.Nat.{ℕ, _+_, _*_, _/_, _%_, _-_, _<_, _≤_, min}
+-- Loops over the columns of a row that was lent, each turn through a part of it: what a turn leaves. Assumes nothing.
+use Prim.Native.Nat.{ℕ, _+_, _-_, _<_, _≤_, min}
 use native.Mathlib.Omega.{arith}
-use mathlib.Core.Path.{_≡_, refl, sym, ap, _∙_}
-use mathlib.Core.Bool.{Bool, true, _||_}
+use mathlib.Core.Path.{_≡_, refl, sym, ap, _∙_, subst}
+use mathlib.Core.Bool.{Bool, true, cond, _&&_}
 use mathlib.Core.Logic.{⊎-elim}
 use mathlib.Core.List.{List, _++_}
-use lib.ListN.{length, take, drop, length-drop}
-use lib.Seq.{length-take-le}
-use Rattle.lent.specs.Paint.{paint, painted, rowPart}
-use Rattle.lent.proofs.Bools.{split, same-test, never-true, either, or-left, or-right}
-use Rattle.lent.proofs.Painted.{painted-none, painted-more, painted-ext, length-painted}
-use Rattle.lent.proofs.Parts.{painted-row}
-use Rattle.lent.proofs.Taken.{rowPart-facts, rowPart-holds}
+use lib.Dec.{ltb}
+use lib.ListN.{length, getD, take, drop, length-drop}
+use lib.Seq.{getD-take, getD-drop, length-take-le}
+use borrow.Author.Tests.{lt-ltb, le-ltb}
+use Rattle.lent.specs.Paint.{paint}
+use Rattle.lent.proofs.Bools.{split, cond-ext, cond-false}
+use Rattle.lent.proofs.Paint.{length-paint, getD-paint, paint-none, paint-is, paint-ext}
+use Rattle.lent.proofs.Parts.{part-length, part-before, part-in, part-after}
 
--- a part's places are the row's columns
-pub rowPart-in : (p q : ℕ → Bool) (row left right j : ℕ) → left + j < right → p (left + j) ≡ q j → rowPart p row left right row (left + j) ≡ q j
-rowPart-in p q row left right j h e =
-    same-test _ (q j)
-    (λ t. sym e ∙ rowPart-facts p row left right row (left + j) t .3)
-    (λ t. rowPart-holds p row left right row (left + j) refl (omega arith) h (e ∙ t))
+-- ys is xs, of which the places below n that p takes are painted
+abbrev pub Below : (ℕ → Bool) → (ℕ → ℕ) → List ℕ → List ℕ → ℕ → Type 0
+Below p s xs ys n = (length ys ≡ length xs) × (ys ≡ paint (λ k. ltb k n && p k) s xs)
 
--- a loop over columns
-module _ (w h : ℕ) (p : ℕ → Bool) (s : ℕ → ℕ → ℕ) (xs : List ℕ) (row left : ℕ) where
-  pub cols-none : xs ≡ painted w h (rowPart p row left left) s xs
-  cols-none = painted-none w h _ s xs (λ r c hr hc. never-true _ (λ e. omega (arith, rowPart-facts p row left left r c e .1, rowPart-facts p row left left r c e .2)))
+module _ (p : ℕ → Bool) (s : ℕ → ℕ) (xs : List ℕ) where
+  pub below-none : Below p s xs xs 0
+  below-none = (refl, paint-none _ s xs (λ k h. ap (λ (b : Bool). b && p k) (le-ltb k 0 (omega arith))))
 
-  cols-more : (mid right : ℕ) → left ≤ mid → mid ≤ right → painted w h (rowPart p row mid right) s (painted w h (rowPart p row left mid) s xs) ≡ painted w h (rowPart p row left right) s xs
-  cols-more mid right l r =
-      painted-more w h _ _ s xs
-      ∙ painted-ext w h _ _ s s xs
-      (λ q c hq hc. same-test (rowPart p row left mid q c || rowPart p row mid right q c) (rowPart p row left right q c)
-      (λ e. ⊎-elim
-      (λ t. let f = rowPart-facts p row left mid q c t in rowPart-holds p row left right q c (f .0) (f .1) (omega (arith, f .2)) (f .3))
-      (λ t. let f = rowPart-facts p row mid right q c t in rowPart-holds p row left right q c (f .0) (omega (arith, f .1)) (f .2) (f .3))
-      (either (rowPart p row left mid q c) _ e))
-      (λ e. let f = rowPart-facts p row left right q c e in ⊎-elim
-      (λ lt. or-left (rowPart p row left mid q c) _ (rowPart-holds p row left mid q c (f .0) (f .1) lt (f .3)))
-      (λ ge. or-right (rowPart p row left mid q c) _ (rowPart-holds p row mid right q c (f .0) ge (f .2) (f .3)))
-      (split c mid)))
-      (λ q c hq hc e. refl)
+  pub below-all : {ys : List ℕ} (n : ℕ) → Below p s xs ys n → length xs ≤ n → ys ≡ paint p s xs
+  below-all n f end = f .1 ∙ paint-ext _ p s s xs (λ k h. ap (λ (b : Bool). b && p k) (lt-ltb k n (omega arith))) (λ k h e. refl)
 
-  -- one turn: the columns from col to below end were lent, painted and came back
-  pub cols-step : {was ys : List ℕ} {t : ℕ → Bool} {u : ℕ → ℕ} (col end : ℕ) → h * w ≤ length xs → row < h → left ≤ col → col ≤ end → end ≤ w
-      → was ≡ painted w h (rowPart p row left col) s xs
-      → ys ≡ paint t u (take (row * w + end - (row * w + col)) (drop (row * w + col) was))
-      → ((j : ℕ) → col + j < end → p (col + j) ≡ t j)
-      → ((j : ℕ) → col + j < end → t j ≡ true → u j ≡ s row (col + j))
-      → take (row * w + col) was ++ (ys ++ drop (row * w + end - (row * w + col)) (drop (row * w + col) was)) ≡ painted w h (rowPart p row left end) s xs
-  cols-step {was} {ys} {t} {u} col end fits hr l e r before now same from =
-      painted-row w h (rowPart p row col end) s was (omega (arith, ap length before ∙ length-painted w h _ s xs)) row col end t u ys hr e r now
-      (λ j hj. rowPart-in p t row col end j hj (same j hj))
-      from
-      (λ q c is. let f = rowPart-facts p row col end q c is in (f .0, f .1, f .2))
-      ∙ ap (painted w h (rowPart p row col end) s) before
-      ∙ cols-more col end l e
+  -- one turn: the places from a to below e were lent, painted and came back
+  pub below-more : {was ys : List ℕ} {t : ℕ → Bool} {u : ℕ → ℕ} (a e : ℕ) → a ≤ e → e ≤ length xs → Below p s xs was a
+      → ys ≡ paint t u (take (e - a) (drop a was))
+      → ((j : ℕ) → a + j < e → p (a + j) ≡ t j)
+      → ((j : ℕ) → a + j < e → t j ≡ true → u j ≡ s (a + j))
+      → Below p s xs (take a was ++ (ys ++ drop (e - a) (drop a was))) e
+  below-more {was} {ys} {t} {u} a e ordered fits before is same from = (
+    all-long,
+    paint-is _ s xs all all-long
+        (λ k h. ⊎-elim
+        (λ lt. part-before was ys a e ordered room long k lt ∙ old k h (lt-ltb k a lt ∙ sym (lt-ltb k e (omega arith))))
+        (λ ge. ⊎-elim
+        (λ lt. let k-is : a + (k - a) ≡ k = omega arith in
+        subst (λ (m : ℕ). getD all m 0 ≡ cond (ltb m e && p m) (s m) (getD xs m 0)) k-is (new (k - a) (omega arith)))
+        (λ ge′. part-after was ys a e ordered room long k ge′ ∙ old k h (le-ltb k a (omega arith) ∙ sym (le-ltb k e ge′)))
+        (split k e))
+        (split k a)),
+  )
+    where
+      all : List ℕ
+      all = take a was ++ (ys ++ drop (e - a) (drop a was))
 
--- a turn goes on by an even number of columns, and ends
-pub turn : {right col n : ℕ} (most : ℕ) → most % 2 ≡ 0 → 0 < most → col < right → col % 2 ≡ 0 → right % 2 ≡ 0 → n ≡ min (right - col) most → (n % 2 ≡ 0) × (n ≤ most) × (0 < n) × (col + n ≤ right) × ((col + n) % 2 ≡ 0)
-turn most e pos lt z z′ is = (omega arith, omega arith, omega arith, omega arith, omega arith)
+      room : e ≤ length was
+      room = omega (arith, before .0, fits)
 
--- as many turns are read as are there
-pub turn-room : (col n : ℕ) → col % 2 ≡ 0 → n % 2 ≡ 0 → (col / 2 % 2 + n / 2 + 1) / 2 + col / 4 ≡ ((col + n) / 2 + 1) / 2
-turn-room col n e e′ =
-    let sum : col / 2 + n / 2 ≡ (col + n) / 2 = omega arith in
-    let quarter : col / 4 ≡ col / 2 / 2 = omega arith in
-    ap (λ (q : ℕ). (col / 2 % 2 + n / 2 + 1) / 2 + q) quarter ∙ halves (col / 2) (n / 2) ∙ ap (λ (m : ℕ). (m + 1) / 2) sum
-  where
-    halves : (a b : ℕ) → (a % 2 + b + 1) / 2 + a / 2 ≡ (a + b + 1) / 2
-    halves a b = omega arith
+      part-long : length (take (e - a) (drop a was)) ≡ e - a
+      part-long = length-take-le (e - a) (drop a was) (simp length-drop (omega (arith, ordered, room)))
 
-turns-le : (a b n : ℕ) → a ≤ b → (a + n + 1) / 2 ≤ (b + n + 1) / 2
-turns-le a b n h = omega arith
+      long : length ys ≡ e - a
+      long = ap length is ∙ length-paint t u _ ∙ part-long
 
-part-long : (xs : List ℕ) (a e n : ℕ) → a + n ≡ e → e ≤ length xs → length (take (e - a) (drop a xs)) ≡ n
-part-long xs a e n h fits = length-take-le (e - a) (drop a xs) (simp length-drop (omega arith)) ∙ omega arith
+      all-long : length all ≡ length xs
+      all-long = part-length was ys a e ordered room long ∙ before .0
 
--- what `even_part` asks of the parts: as many turns are there as are read from the first one on, or from a later one
-pub even-asks : {lead : ℕ} (dst u v : List ℕ) (line at col n : ℕ) → col % 2 ≡ 0 → n % 2 ≡ 0 → n ≤ 252 → line + (col + n) ≤ length dst → at + ((col + n) / 2 + 1) / 2 ≤ length u → at + ((col + n) / 2 + 1) / 2 ≤ length v
-    → lead ≤ col / 2 % 2
-    → let p = length (take (line + (col + n) - (line + col)) (drop (line + col) dst)) in
-    let q : List ℕ → ℕ = λ l. length (take (at + ((col + n) / 2 + 1) / 2 - (at + col / 4)) (drop (at + col / 4) l)) in
-    (p % 2 ≡ 0) × ((p ≤ 252) × ((lead < 2) × (((lead + p / 2 + 1) / 2 ≤ q u) × ((lead + p / 2 + 1) / 2 ≤ q v))))
-even-asks {lead} dst u v line at col n e e′ few hd hu hv first =
-    rw (part-long dst (line + col) (line + (col + n)) n (omega arith) hd, part-long u (at + col / 4) (at + ((col + n) / 2 + 1) / 2) m (sum e e′) hu, part-long v (at + col / 4) (at + ((col + n) / 2 + 1) / 2) m (sum e e′) hv)
-    (e′, (few, (omega arith, (room, room))))
-  where
-    m : ℕ
-    m = (col / 2 % 2 + n / 2 + 1) / 2
+      old : (k : ℕ) → k < length xs → ltb k a ≡ ltb k e → getD was k 0 ≡ cond (ltb k e && p k) (s k) (getD xs k 0)
+      old k h alike = ap (λ (l : List ℕ). getD l k 0) (before .1) ∙ getD-paint _ s xs k h ∙ ap (λ (b : Bool). cond (b && p k) (s k) (getD xs k 0)) alike
 
-    sum : col % 2 ≡ 0 → n % 2 ≡ 0 → at + col / 4 + m ≡ at + ((col + n) / 2 + 1) / 2
-    sum e e′ = omega (arith, turn-room col n e e′)
+      was-at : (j : ℕ) → a + j < e → getD was (a + j) 0 ≡ getD xs (a + j) 0
+      was-at j h =
+          ap (λ (l : List ℕ). getD l (a + j) 0) (before .1)
+          ∙ getD-paint _ s xs (a + j) (omega (arith, fits))
+          ∙ cond-false _ _ _ (ap (λ (b : Bool). b && p (a + j)) (le-ltb (a + j) a (omega arith)))
 
-    room : (lead + n / 2 + 1) / 2 ≤ m
-    room = turns-le lead (col / 2 % 2) (n / 2) first
+      new : (j : ℕ) → a + j < e → getD all (a + j) 0 ≡ cond (ltb (a + j) e && p (a + j)) (s (a + j)) (getD xs (a + j) 0)
+      new j h =
+          part-in was ys a e ordered room long j (omega arith)
+          ∙ ap (λ (l : List ℕ). getD l j 0) is
+          ∙ getD-paint t u _ j (omega (arith, part-long))
+          ∙ ap (λ (v : ℕ). cond (t j) (u j) v) (getD-take (e - a) (drop a was) j 0 (omega arith) ∙ getD-drop a was j 0 ∙ was-at j h)
+          ∙ cond-ext (t j) (p (a + j)) (u j) (s (a + j)) _ (sym (same j h)) (from j h)
+          ∙ sym (ap (λ (b : Bool). cond (b && p (a + j)) (s (a + j)) (getD xs (a + j) 0)) (lt-ltb (a + j) e h))
 
-pub full-asks : (dst src u v : List ℕ) (line luma at col n : ℕ) → (col % 2 ≡ 0) × (n % 2 ≡ 0) × (n ≤ 252) × (line + (col + n) ≤ length dst) × (at + ((col + n) / 2 + 1) / 2 ≤ length u) × (at + ((col + n) / 2 + 1) / 2 ≤ length v) × (luma + (col + n) / 2 ≤ length src)
-    → let p = length (take (line + (col + n) - (line + col)) (drop (line + col) dst)) in
-    let q : List ℕ → ℕ = λ l. length (take (at + ((col + n) / 2 + 1) / 2 - (at + col / 4)) (drop (at + col / 4) l)) in
-    (p % 2 ≡ 0) × ((p ≤ 252) × ((col / 2 % 2 < 2) × (((col / 2 % 2 + p / 2 + 1) / 2 ≤ q u) × (((col / 2 % 2 + p / 2 + 1) / 2 ≤ q v) × (p ≤ 2 * length (take (luma + (col + n) / 2 - (luma + col / 2)) (drop (luma + col / 2) src)))))))
-full-asks dst src u v line luma at col n h =
-    let f = even-asks {lead = col / 2 % 2} dst u v line at col n (h .0) (h .1) (h .2) (h .3) (h .4) (h .5) (omega arith) in
-    (f .0, (f .1 .0, (f .1 .1 .0, (f .1 .1 .1 .0, (f .1 .1 .1 .1, last)))))
-  where
-    last : length (take (line + (col + n) - (line + col)) (drop (line + col) dst)) ≤ 2 * length (take (luma + (col + n) / 2 - (luma + col / 2)) (drop (luma + col / 2) src))
-    last = rw (part-long dst (line + col) (line + (col + n)) n (omega arith) (h .3), part-long src (luma + col / 2) (luma + (col + n) / 2) (n / 2) (omega arith) (h .6)) (omega (arith, h .1))
+-- a turn goes on: less of the n places is left
+pub turn-falls : {n m col r : ℕ} (most : ℕ) → 0 < most → m ≡ n → col < m → r ≡ min (m - col) most → n - (col + r) < n - col
+turn-falls most pos same lt is = omega arith

@@ -1,5 +1,5 @@
 -- The laws of every second place, and of what a part of a row reads from its sources. Assumes nothing.
-use Prim.Native.Nat.{ℕ, _+_, _*_, _/_, _%_, _-_, _<_, _≤_}
+use Prim.Native.Nat.{ℕ, _+_, _*_, _/_, _%_, _<_, _≤_}
 use native.Mathlib.Omega.{arith}
 use mathlib.Core.Path.{_≡_, refl, sym, ap, _∙_}
 use mathlib.Core.Bool.{Bool, true, false, cond}
@@ -12,7 +12,7 @@ use borrow.Author.Tests.{lt-ltb, le-ltb, eq-eqb, eqb-true}
 use Rattle.lent.specs.Paint.{paint, every}
 use Rattle.lent.proofs.Bools.{split, never-true, cond-true, cond-false}
 use Rattle.lent.proofs.Paint.{paint-next, paint-ext, length-paint, getD-paint, paint-is}
-use Rattle.columns.specs.Turns.{odd, even, woven, fourth}
+use Rattle.columns.specs.Turns.{odd, even, woven}
 
 pub is-odd : (k : ℕ) → k % 2 ≡ 1 → odd k ≡ true
 unfolding odd

@@ -2,9 +2,7 @@
 --
 --   odd, even                   of a column
 --   woven evens odds k          byte k of a row that has `evens` at its even places and `odds` at its odd ones
---   fourth u v at c             of the even columns, those by fours are from u, those between from v: the sample of column c, where
---                               the row's samples start at `at` (R69)
-use Prim.Native.Nat.{ℕ, _+_, _/_, _%_}
+use Prim.Native.Nat.{ℕ, _/_, _%_}
 use mathlib.Core.Bool.{Bool, cond}
 use mathlib.Core.List.{List}
 use lib.Dec.{eqb}
@@ -18,6 +16,3 @@ even k = eqb (k % 2) 0
 
 unfoldable pub woven : List ℕ → List ℕ → ℕ → ℕ
 woven evens odds k = cond (odd k) (getD odds (k / 2) 0) (getD evens (k / 2) 0)
-
-unfoldable pub fourth : List ℕ → List ℕ → ℕ → ℕ → ℕ
-fourth u v at c = cond (eqb (c % 4) 0) (getD u (at + c / 4) 0) (getD v (at + c / 4) 0)

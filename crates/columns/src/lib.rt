@@ -1,132 +1,59 @@
-// Row writers: columns of one row of a plane become the bytes of a view's row.
+// Row writers: the columns of a row, lent as a part, become the bytes of a view's row, part by part (`weave`).
 //
-// Each promises every byte of the plane: it paints some columns of one row, part by part (`weave`), and leaves every other byte
-// as it was.
-pub mod weave; // a part of a row, through a local array
+// Each promises every byte of the part that it is lent. The part begins at an even column; where the plane has the row is its caller's.
+pub mod weave; // a short part of a row, through a local array
 
 ghost use mathlib.Core.Path.{_≡_};
 ghost use mathlib.Core.Bool.{cond};
 ghost use Prim.Native.Nat.{_+_, _/_};
 ghost use lib.ListN.{length, getD};
-ghost use Rattle.lent.specs.Paint.{painted, every, rowPart};
-ghost use Rattle.columns.specs.Turns.{odd, even, fourth};
-ghost use Rattle.columns.specs.Fits.{OddsFit, EvensFit, CopyFits};
+ghost use Rattle.lent.specs.Paint.{paint, every};
+ghost use Rattle.columns.specs.Turns.{odd, even, woven};
+ghost use Rattle.columns.specs.Fits.{OddsFit, EvensFit};
 
-// Of row `row` of the plane, the odd columns from left to below right become the bytes of src from `at` on: column c has src[at + c / 2].
-pub fn put_odds(
-    dst: &mut [u8],
-    stride: usize,
-    rows: usize,
-    src: &[u8],
-    at: usize,
-    row: usize,
-    left: usize,
-    right: usize,
-)
-    requires { ⌜ OddsFit (length (now dst)) stride rows (length (now src)) at row left right ⌝ }
-    ensures { λ _. ⌜ now (dst .exit) ≡ painted stride rows (rowPart odd row left right)
-        (λ _ c. getD (now (src .entry)) (at + c / 2) 0) (now (dst .entry)) ⌝ }
+// The odd places of dst become the bytes of `from`.
+pub fn put_odds(dst: &mut [u8], from: &[u8])
+    requires { ⌜ OddsFit (length (now dst)) (length (now from)) ⌝ }
+    ensures { λ _. ⌜ now (dst .exit) ≡ paint odd (λ k. getD (now (from .entry)) (k / 2) 0) (now (dst .entry)) ⌝ }
 {
-    let line = row * stride;
-    let mut col = left;
-    while col < right {
-        let end = col + lent::least(right - col, 128);
-        crate::weave::odd_part(
-            &mut dst[line + col..line + end],
-            &src[at + col / 2..at + end / 2],
-        );
+    let mut col = 0;
+    while col < dst.len() {
+        let end = col + lent::least(dst.len() - col, 128);
+        crate::weave::odd_part(&mut dst[col..end], &from[col / 2..]);
         col = end;
     }
 }
 
-// Of row `row` of the plane, the even columns from left to below right become u[at + c / 4] where c % 4 is 0, and v[at + c / 4] where it is 2.
-pub fn put_evens(
-    dst: &mut [u8],
-    stride: usize,
-    rows: usize,
-    u: &[u8],
-    v: &[u8],
-    at: usize,
-    row: usize,
-    left: usize,
-    right: usize,
-)
-    requires { ⌜ EvensFit (length (now dst)) stride rows (length (now u)) (length (now v)) at row left right ⌝ }
-    ensures { λ _. ⌜ now (dst .exit) ≡ painted stride rows (rowPart even row left right)
-        (λ _ c. fourth (now (u .entry)) (now (v .entry)) at c) (now (dst .entry)) ⌝ }
+// The even places of dst become u and v by turns, from u or from v on: `lead` is 0 or 1.
+pub fn put_evens(dst: &mut [u8], u: &[u8], v: &[u8], lead: usize)
+    requires { ⌜ EvensFit (length (now dst)) (length (now u)) (length (now v)) lead ⌝ }
+    ensures { λ _. ⌜ now (dst .exit) ≡ paint even (λ k. woven (now (u .entry)) (now (v .entry)) (lead + k / 2)) (now (dst .entry)) ⌝ }
 {
-    let line = row * stride;
-    let mut col = left;
-    while col < right {
-        let end = col + lent::least(right - col, 252);
-        let from = at + col / 4;
-        let to = at + (end / 2 + 1) / 2;
-        let lead = col / 2 % 2;
-        crate::weave::even_part(
-            &mut dst[line + col..line + end],
-            &u[from..to],
-            &v[from..to],
+    let mut col = 0;
+    while col < dst.len() {
+        let end = col + lent::least(dst.len() - col, 252);
+        crate::weave::even_part(&mut dst[col..end], &u[col / 4..], &v[col / 4..], lead);
+        col = end;
+    }
+}
+
+// All places of dst: the odd ones as by `put_odds`, the even ones as by `put_evens`.
+pub fn put_full(dst: &mut [u8], from: &[u8], u: &[u8], v: &[u8], lead: usize)
+    requires { ⌜ OddsFit (length (now dst)) (length (now from)) ⌝ }
+    requires { ⌜ EvensFit (length (now dst)) (length (now u)) (length (now v)) lead ⌝ }
+    ensures { λ _. ⌜ now (dst .exit)
+        ≡ paint every (λ k. cond (odd k) (getD (now (from .entry)) (k / 2) 0) (woven (now (u .entry)) (now (v .entry)) (lead + k / 2))) (now (dst .entry)) ⌝ }
+{
+    let mut col = 0;
+    while col < dst.len() {
+        let end = col + lent::least(dst.len() - col, 252);
+        crate::weave::full_part(
+            &mut dst[col..end],
+            &from[col / 2..],
+            &u[col / 4..],
+            &v[col / 4..],
             lead,
         );
         col = end;
     }
-}
-
-// Of row `row` of the plane, all columns from left to below right: the odd ones as by `put_odds`, the even ones as by `put_evens`.
-pub fn put_full(
-    dst: &mut [u8],
-    stride: usize,
-    rows: usize,
-    src: &[u8],
-    luma: usize,
-    u: &[u8],
-    v: &[u8],
-    at: usize,
-    row: usize,
-    left: usize,
-    right: usize,
-)
-    requires { ⌜ OddsFit (length (now dst)) stride rows (length (now src)) luma row left right ⌝ }
-    requires { ⌜ EvensFit (length (now dst)) stride rows (length (now u)) (length (now v)) at row left right ⌝ }
-    ensures { λ _. ⌜ now (dst .exit) ≡ painted stride rows (rowPart every row left right)
-        (λ _ c. cond (odd c) (getD (now (src .entry)) (luma + c / 2) 0) (fourth (now (u .entry)) (now (v .entry)) at c))
-        (now (dst .entry)) ⌝ }
-{
-    let line = row * stride;
-    let mut col = left;
-    while col < right {
-        let end = col + lent::least(right - col, 252);
-        let from = at + col / 4;
-        let to = at + (end / 2 + 1) / 2;
-        crate::weave::full_part(
-            &mut dst[line + col..line + end],
-            &src[luma + col / 2..luma + end / 2],
-            &u[from..to],
-            &v[from..to],
-            col / 2 % 2,
-        );
-        col = end;
-    }
-}
-
-// Of row `row` of the plane, the columns from left to below right become the bytes of src from `at` on: column c has src[at + c].
-pub fn put_copy(
-    dst: &mut [u8],
-    stride: usize,
-    rows: usize,
-    src: &[u8],
-    at: usize,
-    row: usize,
-    left: usize,
-    right: usize,
-)
-    requires { ⌜ CopyFits (length (now dst)) stride rows (length (now src)) at row left right ⌝ }
-    ensures { λ _. ⌜ now (dst .exit) ≡ painted stride rows
-        (rowPart every row left right) (λ _ c. getD (now (src .entry)) (at + c) 0) (now (dst .entry)) ⌝ }
-{
-    let line = row * stride;
-    lent::copy(
-        &mut dst[line + left..line + right],
-        &src[at + left..at + right],
-    );
 }

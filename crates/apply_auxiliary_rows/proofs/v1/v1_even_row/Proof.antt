@@ -1,12 +1,11 @@
 -- `apply_auxiliary_rows::v1::v1_even_row` meets its contract: where the view has the chroma row, the odd columns below twice its width come from it.
 -- Assumes nothing.
 use borrow.Author.Needs.{needs}
-use Prim.Native.Nat.{ℕ, _+_, _*_, _/_, _<_, _≤_, min}
+use Prim.Native.Nat.{ℕ, _+_, _*_, _-_, _/_, _<_, _≤_, min}
 use native.Mathlib.Omega.{arith}
-use mathlib.Core.Path.{_≡_, refl, ap, _∙_}
-use lib.ListN.{length, getD}
+use mathlib.Core.Path.{_≡_, sym, ap, _∙_}
+use lib.ListN.{length}
 use denote.Ref.{now}
-use Rattle.lent.specs.Paint.{painted, rowPart}
 use Rattle.lent.specs.Samples.{sample}
 use Rattle.lent.specs.Sizes.{halfUp}
 use Rattle.view.specs.View.{chromaOf}
@@ -14,7 +13,9 @@ use Rattle.view.proofs.Starts.{rowStart-at, rowStart-absent, row-fits}
 use Rattle.layout.proofs.Pairs.{v1-even-facts, v1-even-holds}
 use Rattle.columns.specs.Turns.{odd}
 use Rattle.columns.proofs.Turns.{odd-true, is-odd}
-use Rattle.apply_auxiliary_rows.proofs.Columns.{columns-none, columns-same}
+use Rattle.columns.proofs.Sources.{odd-shift, part-at}
+use Rattle.apply_auxiliary_rows.proofs.Columns.{columns-none}
+use Rattle.apply_auxiliary_rows.proofs.Area.{area-row, area-written, odds-fit}
 use Rattle.apply_auxiliary_rows.proofs.v1.v1_even_row.Statement.{statement}
 use Rattle.apply_auxiliary_rows.proofs.v1.v1_even_row.Tie as tie
 
@@ -35,6 +36,20 @@ stops : (l : tie.After-least) → let a = entry (l .before .before) .args in l .
 stops l =
     let f = l .before .before in
     l .least .ensures ∙ ap (λ (m : ℕ). min (entry f .args .right) (2 * m)) (f .before .before .before .before .half-up .ensures)
+
+-- what is written lies in the picture's plane, and what is read in the view's row
+in-dst : (n : tie.After-stride)
+    → let l = n .before .before in
+    let a = entry (l .before .before) .args in
+    (a .left ≤ l .least .result) × (a .row * n .stride .result + l .least .result ≤ length (now (a .dst)))
+in-dst n =
+    let l = n .before .before in
+    let s = entry (l .before .before) in
+    let row = area-row (s .args .size) (now (s .args .dst)) (s .args .row) _ _ (s .pre .0) (n .stride .result) (n .stride .ensures .0) in
+    (omega (arith, n .before .if1 .left), omega (arith, row, stops l, s .pre .0 .inside))
+
+seen : (l : tie.After-least) → let f = l .before .before in f .at .given .0 .0 + l .least .result / 2 ≤ length (now (entry f .args .samples))
+seen l = let f = l .before .before in omega (arith, view-row f, stops l, entry f .pre .1 .0 .wide)
 
 half-up-requires : tie.Need-half-up-requires
 half-up-requires c κs = search needs
@@ -77,25 +92,46 @@ returns-2 c =
 stride-requires : tie.Need-stride-requires
 stride-requires c κs = search needs
 
-rows-requires : tie.Need-rows-requires
-rows-requires c κs = search needs
+mul-line : tie.Need-mul-line
+mul-line c = omega (arith, in-dst c)
+
+add-put-odds : tie.Need-add-put-odds
+add-put-odds c = omega (arith, in-dst c)
+
+add-put-odds-2 : tie.Need-add-put-odds-2
+add-put-odds-2 c = omega (arith, in-dst c)
+
+sub-put-odds : tie.Need-sub-put-odds
+sub-put-odds c = omega (arith, in-dst c)
+
+part-put-odds-start : tie.Need-part-put-odds-start
+part-put-odds-start c = omega (arith, in-dst c)
+
+part-put-odds-end : tie.Need-part-put-odds-end
+part-put-odds-end c = omega (arith, in-dst c)
+
+add-put-odds-3 : tie.Need-add-put-odds-3
+add-put-odds-3 c = omega (arith, seen (c .before .before .before), in-dst (c .before))
+
+add-put-odds-4 : tie.Need-add-put-odds-4
+add-put-odds-4 c = omega (arith, seen (c .before .before .before), in-dst (c .before))
+
+sub-put-odds-2 : tie.Need-sub-put-odds-2
+sub-put-odds-2 c = omega (arith, seen (c .before .before .before), in-dst (c .before))
+
+part-put-odds-start-2 : tie.Need-part-put-odds-start-2
+part-put-odds-start-2 c = omega (arith, seen (c .before .before .before), in-dst (c .before))
+
+part-put-odds-end-2 : tie.Need-part-put-odds-end-2
+part-put-odds-end-2 c = omega (arith, seen (c .before .before .before), in-dst (c .before))
 
 put-odds-requires : tie.Need-put-odds-requires
 put-odds-requires c κs =
-    let t = c .before .before .before in
-    let l = t .before in
+    let n = c .before .before in
+    let l = n .before .before in
     let f = l .before .before in
-    let s = entry f in
-    let p = s .pre .0 in
-    record {
-      plane-fits = rw (c .before .before .stride .ensures .0, c .before .rows .ensures .0) (p .plane-fits);
-      row-inside = omega (arith, c .before .rows .ensures .0, p .rows-inside);
-      ordered = omega (arith, t .if1 .left);
-      inside = omega (arith, c .before .before .stride .ensures .0, p .inside, stops l);
-      seen = omega (arith, view-row f, stops l, s .pre .1 .0 .wide);
-      even-left = p .even-left;
-      even-right = omega (arith, p .even-right, stops l);
-    }
+    let p = entry f .pre .0 in
+    odds-fit _ _ _ _ (in-dst n .1) (p .even-left) (omega (arith, p .even-right, stops l)) (in-dst n .0) _ (f .at .given .0 .0) (seen l)
 
 same-length : tie.Need-same-length
 same-length c = search needs
@@ -104,18 +140,18 @@ returns-3 : tie.Need-returns-3
 unfolding sample
 returns-3 c =
     let call = c .before .before in
-    let h = call .before .before in
-    let n = h .before in
+    let n = call .before .before .before in
     let l = n .before .before in
     let f = l .before .before in
     let s = entry f in
     let a = s .args in
-    call .put-odds .ensures
-    ∙ (λ i. painted (n .stride .ensures .0 i) (h .rows .ensures .0 i) (rowPart odd (a .row) (a .left) (l .least .result)) (λ _ k. getD (now (a .samples)) (there f .1 i + k / 2) 0) (now (a .dst)))
-    ∙ columns-same _ _ (a .row) (a .left) _ (l .least .result) (a .right) odd _ _ (λ r k. sample (now (a .samples)) (a .w .«chroma_stride») (r / 2) (k / 2))
+    let p = s .pre .0 in
+    area-written (a .size) (now (a .dst)) (a .row) (a .left) (a .right) p (n .stride .result) (n .stride .ensures .0) (l .least .result) odd _ odd _ _ (call .put-odds .last .0)
+    (in-dst n .0) (omega (arith, stops l)) (call .put-odds .ensures)
+    (λ j h. odd-shift (a .left) j (p .even-left))
+    (λ j h e. part-at (now (a .samples)) (f .at .given .0 .0 + a .left / 2) (f .at .given .0 .0 + l .least .result / 2 - (f .at .given .0 .0 + a .left / 2)) (j / 2) (a .row / 2 * a .w .«chroma_stride» + (a .left + j) / 2) (omega (arith, p .even-right, stops l)) (omega (arith, there f .1, p .even-left)))
     (λ k low m e. (omega (arith, stops l), v1-even-holds (a .w .width) (a .w .height) (a .row) k (s .pre .1 .1) (odd-true k e) (there f .0) (omega (arith, stops l))))
     (λ k low m e. let t = v1-even-facts (a .w .width) (a .w .height) (a .row) k (s .pre .1 .1) e in (omega (arith, stops l, t), is-odd k (t .0)))
-    (λ k e. refl)
 
 pub v1-even-row-spec : {M : Type 1} → statement M
 v1-even-row-spec =
@@ -131,7 +167,17 @@ v1-even-row-spec =
     least-requires
     returns-2
     stride-requires
-    rows-requires
+    mul-line
+    add-put-odds
+    add-put-odds-2
+    sub-put-odds
+    part-put-odds-start
+    part-put-odds-end
+    add-put-odds-3
+    add-put-odds-4
+    sub-put-odds-2
+    part-put-odds-start-2
+    part-put-odds-end-2
     put-odds-requires
     same-length
     returns-3)

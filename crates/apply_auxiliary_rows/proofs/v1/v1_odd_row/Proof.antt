@@ -1,20 +1,24 @@
 -- `apply_auxiliary_rows::v1::v1_odd_row` meets its contract: where the view has both luma rows of the pair, the columns below its width come from the
 -- own one. Assumes nothing.
 use borrow.Author.Needs.{needs}
-use Prim.Native.Nat.{ℕ, _+_, _*_, _<_, _≤_}
+use Prim.Native.Nat.{ℕ, _+_, _*_, _-_, _<_, _≤_}
 use native.Mathlib.Omega.{arith}
 use mathlib.Core.Path.{_≡_, refl, sym, ap, _∙_}
+use mathlib.Core.List.{List}
 use lib.ListN.{length, getD}
 use denote.Ref.{now}
-use Rattle.lent.specs.Paint.{painted, every, rowPart}
+use Rattle.lent.specs.Paint.{every}
+use Rattle.lent.proofs.Paint.{paint-over}
 use Rattle.view.specs.View.{lumaOf}
 use Rattle.view.proofs.Starts.{rowStart-at, rowStart-absent, row-fits}
 use Rattle.layout.specs.declared.Layout.the-variants.{V1}
 use Rattle.layout.specs.Maps.{shift, upperOf}
 use Rattle.layout.proofs.Halves.{shift-le}
 use Rattle.layout.proofs.Pairs.{v1-odd-facts, v1-odd-holds}
+use Rattle.columns.proofs.Sources.{part-at}
 use Rattle.apply_auxiliary_rows.specs.Rows.{auxiliarySource}
-use Rattle.apply_auxiliary_rows.proofs.Columns.{columns-none, columns-same}
+use Rattle.apply_auxiliary_rows.proofs.Columns.{columns-none}
+use Rattle.apply_auxiliary_rows.proofs.Area.{area-row, area-written}
 use Rattle.apply_auxiliary_rows.proofs.Sources.{v1-odd-source}
 use Rattle.apply_auxiliary_rows.proofs.v1.v1_odd_row.Statement.{statement}
 use Rattle.apply_auxiliary_rows.proofs.v1.v1_odd_row.Tie as tie
@@ -52,6 +56,23 @@ view-row f =
     let o = second-of f in
     let u = o .before .before .before .before .before .before in
     omega (arith, there f .1, row-fits (lumaOf (s .args .w)) _ (u .upper .result + o .second .result) (s .pre .1 .0) (there f .0) .0)
+
+-- what is written lies in the picture's plane, and what is read in the view's row
+in-dst : (n : tie.After-stride)
+    → let l = n .before .before in
+    let a = entry (l .before .before .before) .args in
+    (a .left ≤ l .least .result) × (a .row * n .stride .result + l .least .result ≤ length (now (a .dst)))
+in-dst n =
+    let l = n .before .before in
+    let s = entry (l .before .before .before) in
+    let row = area-row (s .args .size) (now (s .args .dst)) (s .args .row) _ _ (s .pre .0) (n .stride .result) (n .stride .ensures .0) in
+    (omega (arith, n .before .if1 .left), omega (arith, row, l .least .ensures, s .pre .0 .inside))
+
+vy-fits : (s : tie.Start) → length (now (s .args .vy)) < 18446744073709551616
+vy-fits s = search needs
+
+seen : (l : tie.After-least) → let f = l .before .before .before in f .at .given .0 .0 + l .least .result ≤ length (now (entry f .args .vy))
+seen l = let f = l .before .before .before in omega (arith, view-row f, l .least .ensures, entry f .pre .1 .0 .wide)
 
 upper-requires : tie.Need-upper-requires
 upper-requires c κs = search needs
@@ -128,23 +149,50 @@ returns-3 c =
 stride-requires : tie.Need-stride-requires
 stride-requires c κs = search needs
 
-rows-requires : tie.Need-rows-requires
-rows-requires c κs = search needs
+mul-line : tie.Need-mul-line
+mul-line c = omega (arith, in-dst c)
 
-put-copy-requires : tie.Need-put-copy-requires
-put-copy-requires c κs =
-    let t = c .before .before .before in
-    let l = t .before in
-    let f = l .before .before .before in
-    let s = entry f in
-    let p = s .pre .0 in
-    record {
-      plane-fits = rw (c .before .before .stride .ensures .0, c .before .rows .ensures .0) (p .plane-fits);
-      row-inside = omega (arith, c .before .rows .ensures .0, p .rows-inside);
-      ordered = omega (arith, t .if1 .left);
-      inside = omega (arith, c .before .before .stride .ensures .0, p .inside, l .least .ensures);
-      seen = omega (arith, view-row f, l .least .ensures, s .pre .1 .0 .wide);
-    }
+add-copy : tie.Need-add-copy
+add-copy c = omega (arith, in-dst c)
+
+add-copy-2 : tie.Need-add-copy-2
+add-copy-2 c = omega (arith, in-dst c)
+
+sub-copy : tie.Need-sub-copy
+sub-copy c = omega (arith, in-dst c)
+
+part-copy-start : tie.Need-part-copy-start
+part-copy-start c = omega (arith, in-dst c)
+
+part-copy-end : tie.Need-part-copy-end
+part-copy-end c = omega (arith, in-dst c)
+
+add-copy-3 : tie.Need-add-copy-3
+add-copy-3 c =
+    let l = c .before .before .before in
+    omega (arith, seen l, in-dst (c .before), vy-fits (entry (l .before .before .before)))
+
+add-copy-4 : tie.Need-add-copy-4
+add-copy-4 c =
+    let l = c .before .before .before in
+    omega (arith, seen l, in-dst (c .before), vy-fits (entry (l .before .before .before)))
+
+sub-copy-2 : tie.Need-sub-copy-2
+sub-copy-2 c = omega (arith, seen (c .before .before .before), in-dst (c .before))
+
+part-copy-start-2 : tie.Need-part-copy-start-2
+part-copy-start-2 c = omega (arith, seen (c .before .before .before), in-dst (c .before))
+
+part-copy-end-2 : tie.Need-part-copy-end-2
+part-copy-end-2 c = omega (arith, seen (c .before .before .before), in-dst (c .before))
+
+copy-requires : tie.Need-copy-requires
+copy-requires c κs =
+    let n = c .before .before in
+    let l = n .before .before in
+    let here = in-dst n in
+    let there = seen l in
+    search needs
 
 same-length : tie.Need-same-length
 same-length c = search needs
@@ -152,19 +200,21 @@ same-length c = search needs
 returns-4 : tie.Need-returns-4
 returns-4 c =
     let call = c .before .before in
-    let h = call .before .before in
-    let n = h .before in
+    let n = call .before .before .before in
     let l = n .before .before in
     let f = l .before .before .before in
     let s = entry f in
     let a = s .args in
     let at : f .at .given .0 .0 ≡ (upperOf (a .row) + shift (a .which) 8) * a .w .«luma_stride» = there f .1 ∙ ap (λ (m : ℕ). m * a .w .«luma_stride») (own (second-of f)) in
-    λ vu vv. call .put-copy .ensures
-    ∙ (λ i. painted (n .stride .ensures .0 i) (h .rows .ensures .0 i) (rowPart every (a .row) (a .left) (l .least .result)) (λ _ k. getD (now (a .vy)) (at i + k) 0) (now (a .dst)))
-    ∙ columns-same _ _ (a .row) (a .left) _ (l .least .result) (a .right) every _ _ (auxiliarySource V1 (a .which) (a .w) (now (a .vy)) vu vv)
+    λ vu vv. area-written (a .size) (now (a .dst)) (a .row) (a .left) (a .right) (s .pre .0) (n .stride .result) (n .stride .ensures .0) (l .least .result) every _ every
+    (auxiliarySource V1 (a .which) (a .w) (now (a .vy)) vu vv) _ (call .copy .last .0)
+    (in-dst n .0) (omega (arith, l .least .ensures)) (paint-over _ _ (call .copy .kept .0))
+    (λ j h. refl)
+    (λ j h e. ap (λ (l : List ℕ). getD l j 0) (call .copy .ensures)
+    ∙ part-at (now (a .vy)) (f .at .given .0 .0 + a .left) (f .at .given .0 .0 + l .least .result - (f .at .given .0 .0 + a .left)) j ((upperOf (a .row) + shift (a .which) 8) * a .w .«luma_stride» + (a .left + j)) (omega arith) (omega (arith, at))
+    ∙ sym (v1-odd-source (a .which) (a .w) (now (a .vy)) vu vv (a .row) (a .left + j) (s .pre .1 .1)))
     (λ k low m e. (omega (arith, l .least .ensures), v1-odd-holds (a .w .width) (a .w .height) (a .row) k (s .pre .1 .1) (pair-there f) (omega (arith, l .least .ensures))))
     (λ k low m e. (omega (arith, l .least .ensures, v1-odd-facts (a .w .width) (a .w .height) (a .row) k (s .pre .1 .1) e), refl))
-    (λ k e. sym (v1-odd-source (a .which) (a .w) (now (a .vy)) vu vv (a .row) k (s .pre .1 .1)))
 
 pub v1-odd-row-spec : {M : Type 1} → statement M
 v1-odd-row-spec =
@@ -188,7 +238,17 @@ v1-odd-row-spec =
     least-requires
     returns-3
     stride-requires
-    rows-requires
-    put-copy-requires
+    mul-line
+    add-copy
+    add-copy-2
+    sub-copy
+    part-copy-start
+    part-copy-end
+    add-copy-3
+    add-copy-4
+    sub-copy-2
+    part-copy-start-2
+    part-copy-end-2
+    copy-requires
     same-length
     returns-4)

@@ -6,7 +6,6 @@ use native.Mathlib.Omega.{arith}
 use mathlib.Core.Path.{_≡_, sym, ap, _∙_}
 use lib.ListN.{length}
 use denote.Ref.{now}
-use Rattle.lent.specs.Paint.{painted, rowPart}
 use Rattle.lent.specs.Sizes.{halfUp}
 use Rattle.view.specs.View.{chromaOf}
 use Rattle.view.proofs.Starts.{rowStart-at, rowStart-absent, row-fits}
@@ -14,12 +13,14 @@ use Rattle.layout.specs.declared.Layout.the-variants.{V2}
 use Rattle.layout.specs.Maps.{shift, v2WidthOf}
 use Rattle.layout.specs.Exists.{v2EvensBelowOf}
 use Rattle.layout.proofs.Halves.{shift-le}
-use Rattle.columns.specs.Turns.{even, fourth}
+use Rattle.columns.specs.Turns.{even}
 use Rattle.columns.proofs.Turns.{even-true, is-even}
+use Rattle.columns.proofs.Sources.{even-shift}
 use Rattle.apply_auxiliary_rows.specs.Rows.{auxiliarySource}
-use Rattle.apply_auxiliary_rows.proofs.Columns.{columns-none, columns-same}
+use Rattle.apply_auxiliary_rows.proofs.Columns.{columns-none}
+use Rattle.apply_auxiliary_rows.proofs.Area.{area-row, area-written, evens-fit}
 use Rattle.apply_auxiliary_rows.proofs.Feeds.{v2-evens-facts, v2-evens-holds}
-use Rattle.apply_auxiliary_rows.proofs.Sources.{v2-even-source}
+use Rattle.apply_auxiliary_rows.proofs.Sources.{v2-even-part}
 use Rattle.apply_auxiliary_rows.proofs.Limits.{evens-seen}
 use Rattle.apply_auxiliary_rows.proofs.v2.v2_evens.Statement.{statement}
 use Rattle.apply_auxiliary_rows.proofs.v2.v2_evens.Tie as tie
@@ -64,6 +65,38 @@ seen o m row =
     (omega (arith, o .before .before .if2 .left))
     (omega (arith, stops l))
 
+-- what is written lies in the picture's plane
+in-dst : (n : tie.After-stride) → let l = n .before .before .before .before .before .before in let a = entry (l .before .before .before) .args in
+    (a .left ≤ l .least .result) × (a .row * n .stride .result + l .least .result ≤ length (now (a .dst)))
+in-dst n =
+    let l = n .before .before .before .before .before .before in
+    let s = entry (l .before .before .before) in
+    let row = area-row (s .args .size) (now (s .args .dst)) (s .args .row) _ _ (s .pre .0) (n .stride .result) (n .stride .ensures .0) in
+    (omega (arith, n .before .before .before .before .before .if2 .left), omega (arith, row, stops l, s .pre .0 .inside))
+
+vu-fits : (s : tie.Start) → length (now (s .args .vu)) < 18446744073709551616
+vu-fits s = search needs
+
+-- both planes have what is read, in whatever order they are handed on: which is which is said by what is written alone
+in-both : (o : tie.After-second)
+    → let l = o .before .before .before in
+    let f = l .before .before .before in
+    let a = entry f .args in
+    let end : ℕ = f .start .given .0 .0 + o .second .result + (l .least .result / 2 + 1) / 2 in
+    (end ≤ length (now (a .vu))) × (end ≤ length (now (a .vv))) × (end < 18446744073709551616) × (a .left ≤ l .least .result)
+in-both o =
+    let f = o .before .before .before .before .before .before in
+    let in-u = seen o _ (view-row f .0) in
+    (in-u, seen o _ (view-row f .1), omega (arith, in-u, vu-fits (entry f)), omega (arith, o .before .before .if2 .left))
+
+own : (o : tie.After-second)
+    → let f = o .before .before .before .before .before .before in
+    let a = entry f .args in
+    f .start .given .0 .0 + o .second .result ≡ a .row / 2 * a .w .«chroma_stride» + shift (a .which) (v2WidthOf (a .w .width) / 4)
+own o =
+    let f = o .before .before .before .before .before .before in
+    λ i. there f .1 i + (o .second .ensures ∙ ap (λ (m : ℕ). shift (entry f .args .which) (m / 4)) (o .before .v2-width .ensures)) i
+
 returns : tie.Need-returns
 returns c =
     let a = c .before .before .before .before .args in
@@ -107,36 +140,64 @@ second-requires : tie.Need-second-requires
 second-requires c κs = search needs
 
 add-at : tie.Need-add-at
-add-at c =
-    let f = c .before .before .before .before .before .before in
-    let long : length (now (entry f .args .vu)) < 18446744073709551616 = search needs in
-    omega (arith, seen c _ (view-row f .0), long)
+add-at c = omega (arith, in-both c)
+
+add-from : tie.Need-add-from
+add-from c = omega (arith, in-both c)
+
+add-to : tie.Need-add-to
+add-to c = omega (arith, in-both c)
+
+add-to-2 : tie.Need-add-to-2
+add-to-2 c = omega (arith, in-both c)
+
+sub-u : tie.Need-sub-u
+sub-u c = omega (arith, in-both c)
+
+part-u-start : tie.Need-part-u-start
+part-u-start c = omega (arith, in-both c)
+
+part-u-end : tie.Need-part-u-end
+part-u-end c = omega (arith, in-both c)
+
+sub-v : tie.Need-sub-v
+sub-v c = omega (arith, in-both (c .before))
+
+part-v-start : tie.Need-part-v-start
+part-v-start c = omega (arith, in-both (c .before))
+
+part-v-end : tie.Need-part-v-end
+part-v-end c = omega (arith, in-both (c .before))
 
 stride-requires : tie.Need-stride-requires
 stride-requires c κs = search needs
 
-rows-requires : tie.Need-rows-requires
-rows-requires c κs = search needs
+mul-line : tie.Need-mul-line
+mul-line c = omega (arith, in-dst c)
+
+add-put-evens : tie.Need-add-put-evens
+add-put-evens c = omega (arith, in-dst c)
+
+add-put-evens-2 : tie.Need-add-put-evens-2
+add-put-evens-2 c = omega (arith, in-dst c)
+
+sub-put-evens : tie.Need-sub-put-evens
+sub-put-evens c = omega (arith, in-dst c)
+
+part-put-evens-start : tie.Need-part-put-evens-start
+part-put-evens-start c = omega (arith, in-dst c)
+
+part-put-evens-end : tie.Need-part-put-evens-end
+part-put-evens-end c = omega (arith, in-dst c)
 
 put-evens-requires : tie.Need-put-evens-requires
 put-evens-requires c κs =
-    let o = c .before .before .before in
+    let n = c .before in
+    let o = n .before .before .before in
     let l = o .before .before .before in
     let f = l .before .before .before in
     let p = entry f .pre .0 in
-    -- both planes have the row, in whatever order they are handed on: which is which is said by what is written alone
-    let in-u = seen o _ (view-row f .0) in
-    let in-v = seen o _ (view-row f .1) in
-    record {
-      plane-fits = rw (c .before .before .stride .ensures .0, c .before .rows .ensures .0) (p .plane-fits);
-      row-inside = omega (arith, c .before .rows .ensures .0, p .rows-inside);
-      ordered = omega (arith, o .before .before .if2 .left);
-      inside = omega (arith, c .before .before .stride .ensures .0, p .inside, stops l);
-      seen-u = omega (arith, in-u, in-v);
-      seen-v = omega (arith, in-u, in-v);
-      even-left = p .even-left;
-      even-right = omega (arith, p .even-right, stops l);
-    }
+    evens-fit _ _ _ _ (in-dst n .1) (p .even-left) (omega (arith, p .even-right, stops l)) (in-dst n .0) _ _ (f .start .given .0 .0 + o .second .result) (omega (arith, in-both o)) (omega (arith, in-both o))
 
 same-length : tie.Need-same-length
 same-length c = search needs
@@ -144,20 +205,20 @@ same-length c = search needs
 returns-4 : tie.Need-returns-4
 returns-4 c =
     let call = c .before .before in
-    let h = call .before .before in
-    let n = h .before in
-    let o = n .before in
+    let n = call .before .before in
+    let o = n .before .before .before in
     let l = o .before .before .before in
     let f = l .before .before .before in
-    let a = entry f .args in
-    let at : f .start .given .0 .0 + o .second .result ≡ a .row / 2 * a .w .«chroma_stride» + shift (a .which) (v2WidthOf (a .w .width) / 4) =
-    λ i. there f .1 i + (o .second .ensures ∙ ap (λ (m : ℕ). shift (a .which) (m / 4)) (o .before .v2-width .ensures)) i in
-    λ vy. call .put-evens .ensures
-    ∙ (λ i. painted (n .stride .ensures .0 i) (h .rows .ensures .0 i) (rowPart even (a .row) (a .left) (l .least .result)) (λ _ k. fourth (now (a .vu)) (now (a .vv)) (at i) k) (now (a .dst)))
-    ∙ columns-same _ _ (a .row) (a .left) _ (l .least .result) (a .right) even _ _ (auxiliarySource V2 (a .which) (a .w) vy (now (a .vu)) (now (a .vv)))
+    let s = entry f in
+    let a = s .args in
+    let p = s .pre .0 in
+    λ vy. area-written (a .size) (now (a .dst)) (a .row) (a .left) (a .right) p (n .stride .result) (n .stride .ensures .0) (l .least .result) even _ even
+    (auxiliarySource V2 (a .which) (a .w) vy (now (a .vu)) (now (a .vv))) _ (call .put-evens .last .0)
+    (in-dst n .0) (omega (arith, stops l)) (call .put-evens .ensures)
+    (λ j h. even-shift (a .left) j (p .even-left))
+    (λ j h e. v2-even-part (a .which) (a .w) vy (now (a .vu)) (now (a .vv)) (a .row) (f .start .given .0 .0 + o .second .result) (a .left) (l .least .result) j (p .even-left) (omega (arith, p .even-right, stops l)) h (own o) (even-true j e))
     (λ k low m e. (omega (arith, stops l), v2-evens-holds (a .w) (a .row) k (even-true k e) (by-odd f) (there f .0) (omega (arith, stops l))))
     (λ k low m e. let t = v2-evens-facts (a .w) (a .row) k e in (omega (arith, stops l, t), is-even k (t .0)))
-    (λ k e. sym (v2-even-source (a .which) (a .w) vy (now (a .vu)) (now (a .vv)) (a .row) k (even-true k e)))
 
 pub v2-evens-spec : {M : Type 1} → statement M
 v2-evens-spec =
@@ -175,8 +236,22 @@ v2-evens-spec =
     v2-width-requires
     second-requires
     add-at
+    add-from
+    add-to
+    add-to-2
+    sub-u
+    part-u-start
+    part-u-end
+    sub-v
+    part-v-start
+    part-v-end
     stride-requires
-    rows-requires
+    mul-line
+    add-put-evens
+    add-put-evens-2
+    sub-put-evens
+    part-put-evens-start
+    part-put-evens-end
     put-evens-requires
     same-length
     returns-4)

@@ -4,25 +4,26 @@ use borrow.Author.Needs.{needs}
 use Prim.Native.Nat.{ℕ, _+_, _*_, _/_, _%_, _<_, _≤_, min}
 use native.Mathlib.Omega.{arith}
 use mathlib.Core.Path.{_≡_, refl, sym, ap, _∙_}
-use mathlib.Core.Bool.{cond}
+use mathlib.Core.Bool.{true}
 use mathlib.Core.Logic.{⊎-elim}
-use lib.ListN.{length, getD}
+use lib.ListN.{length}
 use denote.Ref.{now}
-use Rattle.lent.specs.Paint.{painted, every, rowPart}
+use Rattle.lent.specs.Paint.{every}
 use Rattle.lent.specs.Sizes.{halfUp}
 use Rattle.lent.proofs.Bools.{cond-true, cond-false}
 use Rattle.lent.proofs.Cells.{row-in}
 use Rattle.view.proofs.Starts.{rowStart-at}
 use Rattle.layout.specs.declared.Layout.the-variants.{V2}
 use Rattle.layout.specs.Maps.{shift, v2WidthOf}
-use Rattle.layout.specs.Exists.{v2OddsBelowOf}
+use Rattle.layout.specs.Exists.{fed, v2OddsBelowOf}
 use Rattle.layout.proofs.Halves.{shift-le}
 use Rattle.layout.proofs.Pairs.{v2-odd-holds, v2-even-holds}
-use Rattle.columns.specs.Turns.{odd, fourth}
+use Rattle.columns.specs.Turns.{odd}
 use Rattle.columns.proofs.Turns.{parity, is-odd, not-odd}
 use Rattle.apply_auxiliary_rows.specs.Rows.{auxiliarySource}
-use Rattle.apply_auxiliary_rows.proofs.Columns.{columns-none, columns-same}
-use Rattle.apply_auxiliary_rows.proofs.Sources.{v2-odd-source, v2-even-source}
+use Rattle.apply_auxiliary_rows.proofs.Columns.{columns-none}
+use Rattle.apply_auxiliary_rows.proofs.Area.{area-row, area-written, odds-fit, evens-fit, narrower}
+use Rattle.apply_auxiliary_rows.proofs.Sources.{v2-odd-part, v2-even-part}
 use Rattle.apply_auxiliary_rows.proofs.Limits.{odds-seen, evens-seen, odds-below-evens}
 use Rattle.apply_auxiliary_rows.proofs.v2.v2_together.Statement.{statement}
 use Rattle.apply_auxiliary_rows.proofs.v2.v2_together.Tie as tie
@@ -36,6 +37,9 @@ entry t = t .before .before .before .before .before .before .before .before
 
 abbrev luma-of : tie.After-chroma → tie.After-luma
 luma-of f = f .before .before .before .before .before
+
+abbrev chroma-of : tie.After-second2 → tie.After-chroma
+chroma-of o = o .before .before .before .before .before
 
 -- the row is odd, and one column bounds what is written
 by-odd : (t : tie.Else2) → entry t .args .row % 2 ≡ 1
@@ -80,23 +84,78 @@ luma-seen o =
     (omega (arith, stops t))
 
 chroma-seen : (o : tie.After-second2) (m : ℕ)
-    → let f = o .before .before .before .before in
+    → let f = chroma-of o in
     let t = tested (luma-of f) in
     let a = entry t .args in
     halfUp (a .w .height) * a .w .«chroma_stride» ≤ m → f .chroma .given .0 .0 + o .second2 .result + (t .before .least .result / 2 + 1) / 2 ≤ m
 chroma-seen o m long =
-    let f = o .before .before .before .before in
+    let f = chroma-of o in
     let t = tested (luma-of f) in
     let s = entry t in
     let quarter : ℕ = v2WidthOf (s .args .w .width) / 4 in
+    let own = o .second2 .ensures ∙ ap (λ (m : ℕ). shift (s .args .which) (m / 4)) (o .before .before .before .v2-width .ensures) in
     evens-seen (f .chroma .given .0 .0) (s .args .w .«chroma_stride») m (halfUp (s .args .w .width)) quarter _ _ (chroma-row f m long) (s .pre .1 .chroma-wide)
-    (rw (o .second2 .ensures, o .before .before .v2-width .ensures) (shift-le (s .args .which) quarter))
+    (omega (arith, own, shift-le (s .args .which) quarter))
     (omega (arith, t .if2 .left))
     (omega (arith, stops t, odds-below-evens (s .args .w .width)))
 
 -- nothing is written yet
 none : (s : tie.Start) → let a = s .args in (a .left ≤ a .left) × (a .left ≤ a .right) × (a .left % 2 ≡ 0)
 none s = (omega arith, s .pre .0 .ordered, s .pre .0 .even-left)
+
+-- the planes' lengths fit in the machine word
+fit : (s : tie.Start) → let fits : ℕ → Type 0 = λ n. n < 18446744073709551616 in fits (length (now (s .args .dst))) × fits (length (now (s .args .vy))) × fits (length (now (s .args .vu)))
+fit s = (search needs, search needs, search needs)
+
+in-luma : (o : tie.After-second)
+    → let f = luma-of (o .before .before .before) in
+    let t = tested f in
+    let end : ℕ = f .luma .given .0 .0 + o .second .result + t .before .least .result / 2 in
+    (end ≤ length (now (entry t .args .vy))) × (end < 18446744073709551616) × (entry t .args .left ≤ t .before .least .result)
+in-luma o =
+    let t = tested (luma-of (o .before .before .before)) in
+    (luma-seen o, omega (arith, luma-seen o, fit (entry t)), omega (arith, t .if2 .left))
+
+-- both chroma planes have what is read, in whatever order they are handed on
+in-both : (o : tie.After-second2)
+    → let f = chroma-of o in
+    let t = tested (luma-of f) in
+    let a = entry t .args in
+    let end : ℕ = f .chroma .given .0 .0 + o .second2 .result + (t .before .least .result / 2 + 1) / 2 in
+    (end ≤ length (now (a .vu))) × (end ≤ length (now (a .vv))) × (end < 18446744073709551616) × (a .left ≤ t .before .least .result)
+in-both o =
+    let t = tested (luma-of (chroma-of o)) in
+    let p = entry t .pre .1 in
+    let in-u = chroma-seen o _ (p .u-long) in
+    (in-u, chroma-seen o _ (p .v-long), omega (arith, in-u, fit (entry t)), omega (arith, t .if2 .left))
+
+-- what is written lies in the picture's plane
+in-dst : (n : tie.After-stride)
+    → let t = tested (luma-of (chroma-of (n .before .before .before))) in
+    let a = entry t .args in
+    (a .left ≤ t .before .least .result) × (a .row * n .stride .result + t .before .least .result ≤ length (now (a .dst))) × (length (now (a .dst)) < 18446744073709551616)
+in-dst n =
+    let t = tested (luma-of (chroma-of (n .before .before .before))) in
+    let s = entry t in
+    let row = area-row (s .args .size) (now (s .args .dst)) (s .args .row) _ _ (s .pre .0) (n .stride .result) (n .stride .ensures .0) in
+    (omega (arith, t .if2 .left), omega (arith, row, stops t, s .pre .0 .inside), fit s .0)
+
+-- where the own halves of the rows start
+own-luma : (o : tie.After-second)
+    → let f = luma-of (o .before .before .before) in
+    let a = entry (tested f) .args in
+    f .luma .given .0 .0 + o .second .result ≡ a .row * a .w .«luma_stride» + shift (a .which) (v2WidthOf (a .w .width) / 2)
+own-luma o =
+    let f = luma-of (o .before .before .before) in
+    λ i. luma-there f .1 i + (o .second .ensures ∙ ap (λ (m : ℕ). shift (entry (tested f) .args .which) (m / 2)) (o .before .v2-width .ensures)) i
+
+own-chroma : (o : tie.After-second2)
+    → let f = chroma-of o in
+    let a = entry (tested (luma-of f)) .args in
+    f .chroma .given .0 .0 + o .second2 .result ≡ a .row / 2 * a .w .«chroma_stride» + shift (a .which) (v2WidthOf (a .w .width) / 4)
+own-chroma o =
+    let f = chroma-of o in
+    λ i. chroma-there f .1 i + (o .second2 .ensures ∙ ap (λ (m : ℕ). shift (entry (tested (luma-of f)) .args .which) (m / 4)) (o .before .before .before .v2-width .ensures)) i
 
 returns : tie.Need-returns
 returns c = (none (c .before .before .before .before .before), columns-none _ _ _ _ _ _ _ _ (λ k low h e. omega arith))
@@ -146,52 +205,89 @@ v2-width-requires c κs = search needs
 second-requires : tie.Need-second-requires
 second-requires c κs = search needs
 
-add-from : tie.Need-add-from
-add-from c =
-    let s = entry (tested (luma-of (c .before .before .before))) in
-    let long : length (now (s .args .vy)) < 18446744073709551616 = search needs in
-    omega (arith, luma-seen c, long)
+add-own : tie.Need-add-own
+add-own c = omega (arith, in-luma c)
+
+add-odds : tie.Need-add-odds
+add-odds c = omega (arith, in-luma c)
+
+add-odds-2 : tie.Need-add-odds-2
+add-odds-2 c = omega (arith, in-luma c)
+
+sub-odds : tie.Need-sub-odds
+sub-odds c = omega (arith, in-luma c)
+
+part-odds-start : tie.Need-part-odds-start
+part-odds-start c = omega (arith, in-luma c)
+
+part-odds-end : tie.Need-part-odds-end
+part-odds-end c = omega (arith, in-luma c)
 
 second-requires-2 : tie.Need-second-requires-2
 second-requires-2 c κs = search needs
 
 add-at : tie.Need-add-at
-add-at c =
-    let s = entry (tested (luma-of (c .before .before .before .before))) in
-    let long : length (now (s .args .vu)) < 18446744073709551616 = search needs in
-    omega (arith, chroma-seen c _ (s .pre .1 .u-long), long)
+add-at c = omega (arith, in-both c)
+
+add-from : tie.Need-add-from
+add-from c = omega (arith, in-both c)
+
+add-to : tie.Need-add-to
+add-to c = omega (arith, in-both c)
+
+add-to-2 : tie.Need-add-to-2
+add-to-2 c = omega (arith, in-both c)
+
+sub-u : tie.Need-sub-u
+sub-u c = omega (arith, in-both c)
+
+part-u-start : tie.Need-part-u-start
+part-u-start c = omega (arith, in-both c)
+
+part-u-end : tie.Need-part-u-end
+part-u-end c = omega (arith, in-both c)
+
+sub-v : tie.Need-sub-v
+sub-v c = omega (arith, in-both (c .before))
+
+part-v-start : tie.Need-part-v-start
+part-v-start c = omega (arith, in-both (c .before))
+
+part-v-end : tie.Need-part-v-end
+part-v-end c = omega (arith, in-both (c .before))
 
 stride-requires : tie.Need-stride-requires
 stride-requires c κs = search needs
 
-rows-requires : tie.Need-rows-requires
-rows-requires c κs = search needs
+mul-line : tie.Need-mul-line
+mul-line c = omega (arith, in-dst c)
+
+add-put-full : tie.Need-add-put-full
+add-put-full c = omega (arith, in-dst c)
+
+add-put-full-2 : tie.Need-add-put-full-2
+add-put-full-2 c = omega (arith, in-dst c)
+
+sub-put-full : tie.Need-sub-put-full
+sub-put-full c = omega (arith, in-dst c)
+
+part-put-full-start : tie.Need-part-put-full-start
+part-put-full-start c = omega (arith, in-dst c)
+
+part-put-full-end : tie.Need-part-put-full-end
+part-put-full-end c = omega (arith, in-dst c)
 
 put-full-requires : tie.Need-put-full-requires
 put-full-requires c κs =
-    let o = c .before .before .before in
-    let t = tested (luma-of (o .before .before .before .before)) in
-    let s = entry t in
-    let p = s .pre .0 in
-    let fits : c .before .rows .result * c .before .before .stride .result ≤ length (now (s .args .dst)) = rw (c .before .before .stride .ensures .0, c .before .rows .ensures .0) (p .plane-fits) in
-    let row-inside : s .args .row < c .before .rows .result = omega (arith, c .before .rows .ensures .0, p .rows-inside) in
-    let ordered : s .args .left ≤ t .before .least .result = omega (arith, t .if2 .left) in
-    let inside : t .before .least .result ≤ c .before .before .stride .result = omega (arith, c .before .before .stride .ensures .0, p .inside, stops t) in
-    let even-right : t .before .least .result % 2 ≡ 0 = omega (arith, p .even-right, stops t) in
-    -- both chroma planes have the row, in whatever order they are handed on
-    let in-u = chroma-seen o _ (s .pre .1 .u-long) in
-    let in-v = chroma-seen o _ (s .pre .1 .v-long) in (
-      record { plane-fits = fits; row-inside = row-inside; ordered = ordered; inside = inside; seen = luma-seen (o .before); even-left = p .even-left; even-right = even-right },
-      record {
-        plane-fits = fits;
-        row-inside = row-inside;
-        ordered = ordered;
-        inside = inside;
-        seen-u = omega (arith, in-u, in-v);
-        seen-v = omega (arith, in-u, in-v);
-        even-left = p .even-left;
-        even-right = even-right;
-      },
+    let n = c .before in
+    let o = n .before .before .before in
+    let f = chroma-of o in
+    let g = luma-of f in
+    let t = tested g in
+    let p = entry t .pre .0 in
+    let even-right : t .before .least .result % 2 ≡ 0 = omega (arith, p .even-right, stops t) in (
+      odds-fit _ _ _ _ (in-dst n .1) (p .even-left) even-right (in-dst n .0) _ (g .luma .given .0 .0 + o .before .before .second .result) (in-luma (o .before .before) .0),
+      evens-fit _ _ _ _ (in-dst n .1) (p .even-left) even-right (in-dst n .0) _ _ (f .chroma .given .0 .0 + o .second2 .result) (omega (arith, in-both o)) (omega (arith, in-both o)),
     )
 
 same-length : tie.Need-same-length
@@ -200,35 +296,34 @@ same-length c = search needs
 returns-5 : tie.Need-returns-5
 returns-5 c =
     let call = c .before .before in
-    let h = call .before .before in
-    let n = h .before in
-    let o = n .before in
-    let f = o .before .before .before .before in
+    let n = call .before .before in
+    let o = n .before .before .before in
+    let f = chroma-of o in
     let g = luma-of f in
     let t = tested g in
     let s = entry t in
     let a = s .args in
-    let wide = o .before .before .v2-width .ensures in
-    let luma : g .luma .given .0 .0 + o .before .second .result ≡ a .row * a .w .«luma_stride» + shift (a .which) (v2WidthOf (a .w .width) / 2) =
-    λ i. luma-there g .1 i + (o .before .second .ensures ∙ ap (λ (m : ℕ). shift (a .which) (m / 2)) wide) i in
-    let at : f .chroma .given .0 .0 + o .second2 .result ≡ a .row / 2 * a .w .«chroma_stride» + shift (a .which) (v2WidthOf (a .w .width) / 4) =
-    λ i. chroma-there f .1 i + (o .second2 .ensures ∙ ap (λ (m : ℕ). shift (a .which) (m / 4)) wide) i in (
-      (omega (arith, t .if2 .left), omega (arith, stops t), omega (arith, s .pre .0 .even-right, stops t)),
-      call .put-full .ensures
-          ∙ (λ i. painted (n .stride .ensures .0 i) (h .rows .ensures .0 i) (rowPart every (a .row) (a .left) (t .before .least .result)) (λ _ k. cond (odd k) (getD (now (a .vy)) (luma i + k / 2) 0) (fourth (now (a .vu)) (now (a .vv)) (at i) k)) (now (a .dst)))
-          ∙ columns-same _ _ (a .row) (a .left) _ (t .before .least .result) (t .before .least .result) every _ _ (auxiliarySource V2 (a .which) (a .w) (now (a .vy)) (now (a .vu)) (now (a .vv)))
-          (λ k low m e. (
-            m,
-            ⊎-elim
-                (λ is. v2-odd-holds (a .w .width) (a .w .height) (a .row) k is (luma-there g .0) (omega (arith, stops t)))
-                (λ is. v2-even-holds (a .w .width) (a .w .height) (a .row) k is (by-odd t) (chroma-there f .0) (omega (arith, stops t, odds-below-evens (a .w .width))))
-                (parity k),
-          ))
-          (λ k low m e. (m, refl))
-          (λ k e. ⊎-elim
-          (λ is. cond-true (odd k) _ _ (is-odd k is) ∙ sym (v2-odd-source (a .which) (a .w) (now (a .vy)) (now (a .vu)) (now (a .vv)) (a .row) k is))
-          (λ is. cond-false (odd k) _ _ (not-odd k is) ∙ sym (v2-even-source (a .which) (a .w) (now (a .vy)) (now (a .vu)) (now (a .vv)) (a .row) k is))
-          (parity k)),
+    let p = s .pre .0 in
+    let stop = t .before .least .result in
+    let even-right : stop % 2 ≡ 0 = omega (arith, p .even-right, stops t) in
+    let fed : (k : ℕ) → k < stop → fed V2 (a .w .width) (a .w .height) (a .row) k ≡ true =
+    λ k m. ⊎-elim
+    (λ is. v2-odd-holds (a .w .width) (a .w .height) (a .row) k is (luma-there g .0) (omega (arith, stops t)))
+    (λ is. v2-even-holds (a .w .width) (a .w .height) (a .row) k is (by-odd t) (chroma-there f .0) (omega (arith, stops t, odds-below-evens (a .w .width))))
+    (parity k) in (
+      (in-dst n .0, omega (arith, stops t), even-right),
+      area-written (a .size) (now (a .dst)) (a .row) (a .left) stop (narrower p (in-dst n .0) (omega (arith, stops t)) even-right) (n .stride .result) (n .stride .ensures .0) stop every _ every
+          (auxiliarySource V2 (a .which) (a .w) (now (a .vy)) (now (a .vu)) (now (a .vv))) _ (call .put-full .last .0)
+          (in-dst n .0) (omega arith) (call .put-full .ensures)
+          (λ j h. refl)
+          (λ j h e. ⊎-elim
+          (λ is. cond-true (odd j) _ _ (is-odd j is)
+          ∙ v2-odd-part (a .which) (a .w) (now (a .vy)) (now (a .vu)) (now (a .vv)) (a .row) (g .luma .given .0 .0 + o .before .before .second .result) (a .left) stop j (p .even-left) even-right h (own-luma (o .before .before)) is)
+          (λ is. cond-false (odd j) _ _ (not-odd j is)
+          ∙ v2-even-part (a .which) (a .w) (now (a .vy)) (now (a .vu)) (now (a .vv)) (a .row) (f .chroma .given .0 .0 + o .second2 .result) (a .left) stop j (p .even-left) even-right h (own-chroma o) is)
+          (parity j))
+          (λ k low m e. (m, fed k m))
+          (λ k low m e. (m, refl)),
     )
 
 pub v2-together-spec : {M : Type 1} → statement M
@@ -251,11 +346,30 @@ v2-together-spec =
     returns-4
     v2-width-requires
     second-requires
-    add-from
+    add-own
+    add-odds
+    add-odds-2
+    sub-odds
+    part-odds-start
+    part-odds-end
     second-requires-2
     add-at
+    add-from
+    add-to
+    add-to-2
+    sub-u
+    part-u-start
+    part-u-end
+    sub-v
+    part-v-start
+    part-v-end
     stride-requires
-    rows-requires
+    mul-line
+    add-put-full
+    add-put-full-2
+    sub-put-full
+    part-put-full-start
+    part-put-full-end
     put-full-requires
     same-length
     returns-5)
