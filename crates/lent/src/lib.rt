@@ -3,6 +3,8 @@
 // A call's outcome is an equation (specs/Outcome.antt), a plane after a call is `painted` (specs/Paint.antt), and a refusal is the first
 // number whose test holds (specs/Refusal.antt). The row writers promise every byte of the row that they are lent. Sizes are rounded
 // up, and buffers are found too short, for every size, stride and length, with no sum or product that wraps.
+pub mod words; // neighbouring bytes as one number
+
 ghost use mathlib.Core.Path.{_≡_};
 ghost use Prim.Native.Nat.{_+_, _*_, _/_, _≤_, _<_, min};
 ghost use lib.ListN.{length, getD};
