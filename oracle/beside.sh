@@ -1,6 +1,7 @@
 #!/usr/bin/env bash
 # Builds the library beside the Rust original and runs a program over both: beside.sh PROGRAM [ARGS]
 # Where the original or cargo is not at hand it says so in one line, and that is no failure.
+#   HAYTHAW_PROCESSOR=x86-64-v3   the library and the original are both made for such processors
 set -euo pipefail
 
 oracle=$(cd "$(dirname "${BASH_SOURCE[0]}")" && pwd -P)
@@ -20,5 +21,9 @@ esac
 
 "$oracle/library.sh"
 export CARGO_TARGET_DIR=$oracle/build/cargo
+if [[ -n ${HAYTHAW_PROCESSOR:-} ]]; then
+    export HAYTHAW_ARCHIVE=$oracle/build/$HAYTHAW_PROCESSOR
+    export CARGO_TARGET_DIR=$HAYTHAW_ARCHIVE/cargo RUSTFLAGS=-Ctarget-cpu=$HAYTHAW_PROCESSOR
+fi
 (cd "$oracle" && cargo build --release --offline --quiet)
 exec "$CARGO_TARGET_DIR/release/$program" "$@"

@@ -6,6 +6,7 @@
 #
 #   HAYTHAW_LIBRARY=module    goes the second road on x86-64 too
 #   HAYTHAW_MACHINE=aarch64   makes oracle/build/aarch64/libhaythaw.a, for that machine
+#   HAYTHAW_PROCESSOR=x86-64-v3   makes oracle/build/x86-64-v3/libhaythaw.a, of the module, for such processors alone (the bench)
 set -euo pipefail
 
 oracle=$(cd "$(dirname "${BASH_SOURCE[0]}")" && pwd -P)
@@ -13,6 +14,7 @@ root=$(dirname "$oracle")
 build=$oracle/build
 here=$(uname -m)
 machine=${HAYTHAW_MACHINE:-$here}
+processor=${HAYTHAW_PROCESSOR:-}
 
 fail() { printf 'library.sh: %s\n' "$*" >&2; exit 1; }
 
@@ -21,10 +23,11 @@ case ${HAYTHAW_LIBRARY:-} in
 *) fail "HAYTHAW_LIBRARY is $HAYTHAW_LIBRARY; it can be 'module', or not set" ;;
 esac
 road=archive
-if [[ $machine != x86_64 || ${HAYTHAW_LIBRARY:-} == module ]]; then road=module; fi
+if [[ $machine != x86_64 || ${HAYTHAW_LIBRARY:-} == module || -n $processor ]]; then road=module; fi
 
 place=$build
 if [[ $machine != "$here" ]]; then place=$build/$machine; fi
+if [[ -n $processor ]]; then place=$build/$processor; fi
 archive=$place/libhaythaw.a
 
 "$root/.ci/needs" library || exit 1
@@ -47,7 +50,7 @@ run_rt() { # WORDS...
 # What the library is made from, and how.
 state() {
     {
-        echo "$road $machine"
+        echo "$road $machine $processor"
         rt version
         cd "$root" && find crates.txt crates oracle/library.sh oracle/retarget.py oracle/calls.c bind/c/test/results.h bind/c/haythaw.h \
             -type f -exec sha256sum {} + | sort
@@ -95,7 +98,7 @@ from_module() {
     [[ ${#kept[@]} -eq 1 && -f ${kept[0]} ]] || fail "the kit's compiler was not handed exactly one module"
     "$tools/clang" -S -emit-llvm -x ir -O0 -Xclang -disable-llvm-passes "${kept[0]}" -o "$build/module/module.ll"
     python3 "$oracle/retarget.py" "$triple" <"$build/module/module.ll" >"$build/module/native.ll"
-    "$tools/clang" --target="$triple" -O3 -fPIC -ffunction-sections -fdata-sections -Werror -c -x ir \
+    "$tools/clang" --target="$triple" ${processor:+"-march=$processor"} -O3 -fPIC -ffunction-sections -fdata-sections -Werror -c -x ir \
         "$build/module/native.ll" -o "$build/module/haythaw.o"
     rm -f "$archive.new"
     "$tools/llvm-ar" rcs "$archive.new" "$build/module/haythaw.o"
@@ -124,4 +127,4 @@ if [[ ! -f $archive || ! -f $archive.state || $(cat "$archive.state") != "$now" 
     mv "$archive.new" "$archive"
     echo "$now" >"$archive.state"
 fi
-printf 'library: %s (%s, %s)\n' "${archive#"$root"/}" "$machine" "$road"
+printf 'library: %s (%s, %s)\n' "${archive#"$root"/}" "$machine${processor:+, $processor}" "$road"

@@ -26,7 +26,7 @@ pub const SUITE: Suite = Suite {
 pub const BENCH: Bench = Bench {
     name: "annex_b",
     input: "285 units of 1,400 bytes; the original's Vec is long enough",
-    bound: None,
+    bound: Some(1.1),
     over: Over::One(|| {
         const CALLS: u64 = 50;
         let payload: Rc<[u8]> = payloads::units(&[1400; 285]).into();

@@ -10,7 +10,7 @@ use crate::random::Random;
 pub const DATA: Weighing = Weighing {
     name: "avc444_write",
     input: "two streams of 1,000 rectangles and 100,000 H.264 bytes, against a copy of as many bytes",
-    bound: None,
+    bound: Some(1.15),
     passes: || passes(100, 1000, 100_000),
 };
 

@@ -4,6 +4,7 @@ use std::hint::black_box;
 
 use original::avc444::{probe, Yuv444Frame};
 
+use super::look::Look;
 use super::noise::{Noise, LONGEST};
 use super::pictures::{Planes, Sizes};
 use super::{lengths, Suite};
@@ -23,22 +24,35 @@ random: sizes to 1,024 by 1,024, or 4,096 wide or high, seldom with something to
 
 pub const BENCH: Bench = Bench {
     name: "from_rgba",
-    input: "; the original allocates the planes",
-    bound: Some(0.70),
-    over: Over::Frames(|width, height| {
-        let pixels = Noise::new(LONGEST).bytes(0, exact(Sizes::exact(width, height).size)).to_vec();
-        Sides::repeated(2, pass(width, height), move || their_sum(black_box(&pixels), width, height))
-    }),
+    input: ", noise; the original allocates the planes",
+    bound: Some(0.35),
+    over: Over::Frames(|width, height| sides(Look::Noise, width, height)),
 };
 
-pub const SCALE: Weighing = Weighing { name: "from_rgba", input: SCALES, bound: Some(2.0), passes: || scale(pass) };
+pub const SMOOTH_BENCH: Bench = Bench {
+    name: "from_rgba",
+    input: ", smooth; the original allocates the planes",
+    bound: Some(0.40),
+    over: Over::Frames(|width, height| sides(Look::Smooth, width, height)),
+};
+
+pub const SCALE: Weighing = Weighing {
+    name: "from_rgba",
+    input: SCALES,
+    bound: Some(2.0),
+    passes: || scale(|width, height| pass(Look::Noise, width, height)),
+};
+
+fn sides(look: Look, width: u16, height: u16) -> Sides {
+    let pixels = look.pixels(width, height);
+    Sides::repeated(2, pass(look, width, height), move || their_sum(black_box(&pixels), width, height))
+}
 
 /// A call of ours, which answers the number and a sum of bytes of the planes.
-fn pass(width: u16, height: u16) -> Pass {
-    let noise = Noise::new(LONGEST);
+fn pass(look: Look, width: u16, height: u16) -> Pass {
     let sizes = Sizes::exact(width, height);
-    let pixels = noise.bytes(0, exact(sizes.size)).to_vec();
-    let mut planes = Planes::new(&sizes, &noise, 0);
+    let pixels = look.pixels(width, height);
+    let mut planes = Planes::new(&sizes, &Noise::new(LONGEST), 0);
     Pass::new(u64::from(width) * u64::from(height), move || {
         let number = ours::from_rgba(black_box(&pixels), sizes.size, planes.lent());
         u64::from(number) + planes.sample()

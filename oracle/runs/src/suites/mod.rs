@@ -14,6 +14,7 @@ mod forward;
 mod from_rgba;
 mod lengths;
 mod lists;
+mod look;
 mod new;
 mod noise;
 mod payloads;
@@ -74,8 +75,11 @@ pub const BENCHES: &[Bench] = &[
     annex_b::BENCH,
     new::BENCH,
     from_rgba::BENCH,
+    from_rgba::SMOOTH_BENCH,
     to_rgba::BENCH,
+    to_rgba::SMOOTH_BENCH,
     view_to_rgba::BENCH,
+    view_to_rgba::SMOOTH_BENCH,
     apply::MAIN_BENCH,
     apply::MAIN_RECTS_BENCH,
     apply::V1_BENCH,

@@ -7,8 +7,9 @@ use std::hint::black_box;
 use original::decode::Yuv420Frame;
 
 use super::lengths::changed;
-use super::noise::{Noise, LONGEST};
-use super::views::{self, original_of, Owned, Sizes, Source};
+use super::look::Look;
+use super::noise::LONGEST;
+use super::views::{self, original_of, Sizes, Source};
 use super::Suite;
 use crate::bench::{sample, scale, Bench, Over, Pass, Sides, Weighing, SCALES};
 use crate::ours::{self, View};
@@ -97,21 +98,34 @@ fn all_views(run: &mut Run) {
 
 pub const BENCH: Bench = Bench {
     name: "view_to_rgba",
-    input: ", strides the widths; the original allocates its answer",
+    input: ", noise, strides the widths; the original allocates its answer",
     bound: Some(0.25),
-    over: Over::Frames(|width, height| {
-        let view = Owned::new(&Noise::new(LONGEST), width, height);
-        let frame = original_of(view.view()).0.expect("the planes are exact");
-        Sides::repeated(2, pass(width, height), move || their_sum(black_box(&frame)))
-    }),
+    over: Over::Frames(|width, height| sides(Look::Noise, width, height)),
 };
 
-pub const SCALE: Weighing = Weighing { name: "view_to_rgba", input: SCALES, bound: Some(2.0), passes: || scale(pass) };
+pub const SMOOTH_BENCH: Bench = Bench {
+    name: "view_to_rgba",
+    input: ", smooth, strides the widths; the original allocates its answer",
+    bound: None,
+    over: Over::Frames(|width, height| sides(Look::Smooth, width, height)),
+};
+
+pub const SCALE: Weighing = Weighing {
+    name: "view_to_rgba",
+    input: SCALES,
+    bound: Some(2.0),
+    passes: || scale(|width, height| pass(Look::Noise, width, height)),
+};
+
+fn sides(look: Look, width: u16, height: u16) -> Sides {
+    let frame = original_of(look.view(width, height).view()).0.expect("the planes are exact");
+    Sides::repeated(2, pass(look, width, height), move || their_sum(black_box(&frame)))
+}
 
 /// A call of ours, which answers the number, the count and a sum of bytes.
-fn pass(width: u16, height: u16) -> Pass {
+fn pass(look: Look, width: u16, height: u16) -> Pass {
     let pixels = u64::from(width) * u64::from(height);
-    let view = Owned::new(&Noise::new(LONGEST), width, height);
+    let view = look.view(width, height);
     let mut out = vec![0; 4 * pixels as usize];
     Pass::new(pixels, move || {
         let ours::Answer { number, count } = ours::view_to_rgba(black_box(view.view()), &mut out);

@@ -144,7 +144,7 @@ impl Source {
     }
 }
 
-/// A view with random planes of its own and no byte between its rows, of any size: for the benches.
+/// A view with planes of its own and no byte between its rows, of any size: for the benches.
 pub struct Owned {
     width: u16,
     height: u16,
@@ -152,10 +152,14 @@ pub struct Owned {
 }
 
 impl Owned {
+    /// Its planes are random.
     pub fn new(noise: &Noise, width: u16, height: u16) -> Self {
         let length = |width: u16, height: u16| usize::from(width) * usize::from(height);
         let chroma = length(width.div_ceil(2), height.div_ceil(2));
-        let planes = noise.planes(0, [length(width, height), chroma, chroma]).map(<[u8]>::to_vec);
+        Self::of(width, height, noise.planes(0, [length(width, height), chroma, chroma]).map(<[u8]>::to_vec))
+    }
+
+    pub fn of(width: u16, height: u16, planes: [Vec<u8>; 3]) -> Self {
         Self { width, height, planes }
     }
 

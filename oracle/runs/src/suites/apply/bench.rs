@@ -30,14 +30,14 @@ pub const V1_BENCH: Bench =
 pub const V1_RECTS_BENCH: Bench = Bench {
     name: "apply_auxiliary_v1_rects",
     input: ODD_RECTS,
-    bound: Some(1.0),
+    bound: Some(0.6),
     over: Over::One(|| sides(&V1, 1920, 1080, odd_rects())),
 };
 
 pub const V1_SMALL_RECTS_BENCH: Bench = Bench {
     name: "apply_auxiliary_v1_small",
     input: SMALL_RECTS,
-    bound: None,
+    bound: Some(1.0),
     over: Over::One(|| sides(&V1, 1920, 1080, small_rects())),
 };
 
@@ -47,14 +47,14 @@ pub const V2_BENCH: Bench =
 pub const V2_RECTS_BENCH: Bench = Bench {
     name: "apply_auxiliary_v2_rects",
     input: ODD_RECTS,
-    bound: Some(1.0),
+    bound: Some(0.45),
     over: Over::One(|| sides(&V2, 1920, 1080, odd_rects())),
 };
 
 pub const V2_SMALL_RECTS_BENCH: Bench = Bench {
     name: "apply_auxiliary_v2_small",
     input: SMALL_RECTS,
-    bound: None,
+    bound: Some(1.0),
     over: Over::One(|| sides(&V2, 1920, 1080, small_rects())),
 };
 

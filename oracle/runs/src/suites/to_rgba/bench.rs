@@ -8,22 +8,20 @@ use original::ExclusiveRectangle;
 use crate::bench::{sample, scale, Bench, Over, Pass, Sides, Weighing, SCALES};
 use crate::ours::{self, Size};
 use crate::suites::lists::{self, Rect};
-use crate::suites::noise::{Noise, LONGEST};
-use crate::suites::pictures::Sizes;
+use crate::suites::look::Look;
 
 pub const BENCH: Bench = Bench {
     name: "to_rgba",
-    input: "; the original allocates its answer",
+    input: ", noise; the original allocates its answer",
     bound: Some(0.25),
-    over: Over::Frames(|width, height| {
-        let size = Size { width, height };
-        let whole = lists::whole(size);
-        let memory = planes(size);
-        let planes: Vec<&[u8]> = memory.chunks(memory.len() / 3).collect();
-        let picture = probe::with_planes(width, height, planes.try_into().expect("three planes"));
-        let rect = lists::original_of(whole);
-        Sides::repeated(2, pass(size, whole, FAR), move || their_sum(black_box(&picture), &rect))
-    }),
+    over: Over::Frames(|width, height| sides(Look::Noise, width, height)),
+};
+
+pub const SMOOTH_BENCH: Bench = Bench {
+    name: "to_rgba",
+    input: ", smooth; the original allocates its answer",
+    bound: None,
+    over: Over::Frames(|width, height| sides(Look::Smooth, width, height)),
 };
 
 pub const ODD_EDGES: Weighing = Weighing {
@@ -32,7 +30,7 @@ pub const ODD_EDGES: Weighing = Weighing {
     bound: Some(1.2),
     passes: || {
         let size = Size { width: 1920, height: 1080 };
-        [[1, 0, 1918, 1080], [0, 0, 1918, 1080]].map(|rect| pass(size, rect, FAR))
+        [[1, 0, 1918, 1080], [0, 0, 1918, 1080]].map(|rect| pass(Look::Noise, size, rect, FAR))
     },
 };
 
@@ -53,17 +51,25 @@ pub const PLACES: Weighing = Weighing {
 /// Bytes between V and an output that is far from it.
 const FAR: usize = 1 << 17;
 
+fn sides(look: Look, width: u16, height: u16) -> Sides {
+    let size = Size { width, height };
+    let whole = lists::whole(size);
+    let picture = probe::with_planes(width, height, look.planes(width, height).each_ref().map(Vec::as_slice));
+    let rect = lists::original_of(whole);
+    Sides::repeated(2, pass(look, size, whole, FAR), move || their_sum(black_box(&picture), &rect))
+}
+
 fn whole(width: u16, height: u16, gap: usize) -> Pass {
     let size = Size { width, height };
-    pass(size, lists::whole(size), gap)
+    pass(Look::Noise, size, lists::whole(size), gap)
 }
 
 /// A call of ours for a rectangle inside the picture, which answers the number, the count and a sum of bytes. The planes stand
 /// one behind the other, and then, so many bytes on, the output: where buffers lie is not left to chance.
-fn pass(size: Size, rect: Rect, gap: usize) -> Pass {
+fn pass(look: Look, size: Size, rect: Rect, gap: usize) -> Pass {
     let [left, top, right, bottom] = rect;
     let pixels = u64::from(right - left) * u64::from(bottom - top);
-    let mut memory = planes(size);
+    let mut memory = look.planes(size.width, size.height).concat();
     let length = memory.len() / 3;
     memory.resize(3 * length + gap + 4 * pixels as usize, 0);
     Pass::new(pixels, move || {
@@ -73,11 +79,6 @@ fn pass(size: Size, rect: Rect, gap: usize) -> Pass {
         let ours::Answer { number, count } = ours::to_rgba(size, [y, u, v], rect, out);
         u64::from(number) + count as u64 + sample(out)
     })
-}
-
-/// Random planes Y, U and V, one behind the other.
-fn planes(Size { width, height }: Size) -> Vec<u8> {
-    Noise::new(LONGEST).bytes(0, 3 * Sizes::exact(width, height).plane()).to_vec()
 }
 
 #[inline(never)]

@@ -16,7 +16,7 @@ use crate::outcome::{Lent, Outcome};
 use crate::random::Random;
 use crate::run::Run;
 
-pub use self::bench::{BENCH, ODD_EDGES, PLACES, SCALE};
+pub use self::bench::{BENCH, ODD_EDGES, PLACES, SCALE, SMOOTH_BENCH};
 
 pub const SUITE: Suite = Suite {
     name: "to_rgba",

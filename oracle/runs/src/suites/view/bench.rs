@@ -18,14 +18,14 @@ pub const NUMBER_BENCH: Bench = Bench {
 pub const ROW_BENCH: Bench = Bench {
     name: "luma_row",
     input: "rows of 1920x1088; ours checks the view in each call, the original has before",
-    bound: None,
+    bound: Some(2.0),
     over: Over::One(|| row_sides(1920, 1088)),
 };
 
 pub const SMALL_ROW_BENCH: Bench = Bench {
     name: "luma_row_small",
     input: "rows of 16x16; the same",
-    bound: None,
+    bound: Some(2.0),
     over: Over::One(|| row_sides(16, 16)),
 };
 
