@@ -7,6 +7,7 @@ pub mod words; // neighbouring bytes as one number
 
 ghost use mathlib.Core.Path.{_≡_};
 ghost use Prim.Native.Nat.{_+_, _*_, _/_, _≤_, _<_, min};
+ghost use lib.Dec.{ltb};
 ghost use lib.ListN.{length, getD};
 ghost use lib.Seq.{sets};
 ghost use Rattle.lent.specs.Paint.{paint, every};
@@ -19,19 +20,64 @@ pub struct Answer {
     pub count: usize,
 }
 
-// dst becomes src.
-pub fn copy(dst: &mut [u8], src: &[u8])
-    requires { ⌜ length (now dst) ≡ length (now src) ⌝ }
-    ensures { λ _. ⌜ now (dst .exit) ≡ now (src .entry) ⌝ }
+// The first n bytes of dst become those of src. For a count that is fixed, or where one of the two is a local array: else the compiler
+// tests first whether they overlap.
+pub fn some(dst: &mut [u8], src: &[u8], n: usize)
+    requires { ⌜ n ≤ length (now dst) ⌝ }
+    requires { ⌜ n ≤ length (now src) ⌝ }
+    ensures { λ _. ⌜ now (dst .exit) ≡ paint (λ k. ltb k n) (λ k. getD (now (src .entry)) k 0) (now (dst .entry)) ⌝ }
 {
     let mut i = 0;
-    while i < src.len() {
+    while i < n {
         dst[i] = src[i];
         i += 1;
     }
 }
 
-// Each byte of `from` goes to two places of dst. In pairs, since an index i / 2 keeps the compiler from vector code; an odd last one apart.
+// dst becomes src, 16 bytes. The local array overlaps neither: the compiler makes one load and one store of the two copies.
+fn copy_16(dst: &mut [u8], src: &[u8])
+    requires { ⌜ (length (now dst) ≡ 16) × (length (now src) ≡ 16) ⌝ }
+    ensures { λ _. ⌜ now (dst .exit) ≡ now (src .entry) ⌝ }
+{
+    let mut t = [0u8; 16];
+    some(&mut t, src, 16);
+    some(dst, &t, 16);
+}
+
+// dst becomes src, a few bytes. Not by `some`: then the compiler writes `copy` out at each of its calls, and long rows are slower.
+fn copy_short(dst: &mut [u8], src: &[u8])
+    requires { ⌜ length (now dst) ≡ length (now src) ⌝ }
+    ensures { λ _. ⌜ now (dst .exit) ≡ now (src .entry) ⌝ }
+{
+    let mut k = 0;
+    while k < src.len() {
+        dst[k] = src[k];
+        k += 1;
+    }
+}
+
+// dst becomes src. 16 bytes a turn; the last turn ends at the end, whatever it has in common with the one before: no byte is left for a
+// slow rest.
+pub fn copy(dst: &mut [u8], src: &[u8])
+    requires { ⌜ length (now dst) ≡ length (now src) ⌝ }
+    ensures { λ _. ⌜ now (dst .exit) ≡ now (src .entry) ⌝ }
+{
+    let n = src.len();
+    if n < 16 {
+        copy_short(dst, src);
+        return;
+    }
+    let last = n - 16;
+    let mut i = 0;
+    while i < last {
+        copy_16(&mut dst[i..i + 16], &src[i..i + 16]);
+        i += 16;
+    }
+    copy_16(&mut dst[last..n], &src[last..n]);
+}
+
+// Each byte of `from` goes to two places of dst. One word a pair, since an index i / 2 keeps the compiler from vector code: 257 is
+// 256 + 1, so that both bytes of the word are the sample. An odd last one apart.
 pub fn spread(dst: &mut [u8], from: &[u8])
     requires { ⌜ length (now dst) ≤ 2 * length (now from) ⌝ }
     ensures { λ _. ⌜ now (dst .exit) ≡ paint every (λ k. getD (now (from .entry)) (k / 2) 0) (now (dst .entry)) ⌝ }
@@ -39,9 +85,7 @@ pub fn spread(dst: &mut [u8], from: &[u8])
     let pairs = dst.len() / 2;
     let mut i = 0;
     while i < pairs {
-        let sample = from[i];
-        dst[2 * i] = sample;
-        dst[2 * i + 1] = sample;
+        words::put_two(dst, 2 * i, 257 * (from[i] as u16));
         i += 1;
     }
     let end = 2 * pairs;
@@ -102,11 +146,16 @@ pub fn half_up(n: u16) -> usize
     (n as usize + 1) / 2
 }
 
-// Whether len bytes are fewer than `rows` rows of `stride` bytes. It divides, so that no product wraps: one that is too large for the
-// machine word is above every length.
+// Whether len bytes are fewer than `rows` rows of `stride` bytes. It multiplies where both are below 2^32, which is fast, and else it
+// divides, so that no product wraps: one that is too large for the machine word is above every length.
 pub fn too_short(stride: usize, rows: usize, len: usize) -> bool
     ensures { λ r. ⌜ r ≡ tooShort stride rows len ⌝ }
 {
+    if stride < 4294967296 {
+        if rows < 4294967296 {
+            return len < rows * stride;
+        }
+    }
     if rows == 0 {
         return false;
     }

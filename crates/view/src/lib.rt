@@ -65,18 +65,19 @@ fn too_narrow(w: View) -> bool
     w.chroma_stride < lent::half_up(w.width)
 }
 
-// Refusal 4: a plane, of so many bytes, is shorter than its rows.
+// Refusal 4: a plane, of so many bytes, is shorter than its rows. U and V have one stride and one number of rows, so that the shorter of
+// the two decides for both.
 fn plane_too_short(w: View, ny: usize, nu: usize, nv: usize) -> bool
     ensures { λ r. ⌜ r ≡ planeShort w ny nu nv ⌝ }
 {
     if lent::too_short(w.luma_stride, w.height as usize, ny) {
         return true;
     }
-    let rows = lent::half_up(w.height);
-    if lent::too_short(w.chroma_stride, rows, nu) {
-        return true;
-    }
-    lent::too_short(w.chroma_stride, rows, nv)
+    lent::too_short(
+        w.chroma_stride,
+        lent::half_up(w.height),
+        lent::least(nu, nv),
+    )
 }
 
 // 0, or the refusal of a view.

@@ -1,11 +1,11 @@
--- `lent::spread` meets its contract. The invariant: the first 2 i bytes are painted, two of each byte of `from`; an odd last byte is one
--- store more.
+-- `lent::spread` meets its contract. The invariant: the first 2 i bytes are painted, two of each byte of `from`: both bytes of 257 * b are b.
+-- An odd last byte is one store more.
 -- Assumes nothing.
-use Prim.Native.Nat.{ℕ, _+_, _-_, _*_, _/_, _≤_}
+use Prim.Native.Nat.{ℕ, _+_, _-_, _*_, _/_, _%_, _≤_, _<_}
 use native.Mathlib.Omega.{arith}
-use mathlib.Core.Path.{_≡_, refl, sym, ap, _∙_}
+use mathlib.Core.Path.{_≡_, refl, ap, _∙_}
 use lib.Dec.{ltb}
-use lib.ListN.{length, getD, length-set}
+use lib.ListN.{length, getD, set, length-set}
 use borrow.Author.Tests.{le-ltb, lt-ltb}
 use Rattle.lent.specs.Paint.{paint}
 use Rattle.lent.proofs.Paint.{paint-none, paint-next, paint-pair, paint-ext}
@@ -22,23 +22,20 @@ abbrev μ-loop : tie.MeasureT-loop
 loop-holds : tie.Need-loop-holds Inv-loop μ-loop
 loop-holds c = (refl, omega arith, refl, paint-none _ _ _ (λ k h. le-ltb k (2 * 0) (omega arith)))
 
-shared-slice-read-sample : tie.Need-shared-slice-read-sample Inv-loop μ-loop
-shared-slice-read-sample c = omega arith
+mul-put-two : tie.Need-mul-put-two Inv-loop μ-loop
+mul-put-two c = omega arith
 
-mul-dst : tie.Need-mul-dst Inv-loop μ-loop
-mul-dst c = omega arith
+shared-slice-read-put-two : tie.Need-shared-slice-read-put-two Inv-loop μ-loop
+shared-slice-read-put-two c = omega arith
 
-slice-write-dst : tie.Need-slice-write-dst Inv-loop μ-loop
-slice-write-dst c = omega arith
+cast-put-two : tie.Need-cast-put-two Inv-loop μ-loop
+cast-put-two c = omega (arith, c .shared-slice-known2 .given (c .before .before .before .loop .i))
 
-mul-dst-2 : tie.Need-mul-dst-2 Inv-loop μ-loop
-mul-dst-2 c = omega arith
+mul-put-two-2 : tie.Need-mul-put-two-2 Inv-loop μ-loop
+mul-put-two-2 c = omega (arith, c .shared-slice-known2 .given (c .before .before .before .loop .i))
 
-add-dst : tie.Need-add-dst Inv-loop μ-loop
-add-dst c = omega arith
-
-slice-write-dst-2 : tie.Need-slice-write-dst-2 Inv-loop μ-loop
-slice-write-dst-2 c = simp length-set (omega arith)
+put-two-requires : tie.Need-put-two-requires Inv-loop μ-loop
+put-two-requires c κs = omega arith
 
 add-i : tie.Need-add-i Inv-loop μ-loop
 add-i c = omega arith
@@ -48,11 +45,18 @@ loop-less c = omega arith
 
 loop-again : tie.Need-loop-again Inv-loop μ-loop
 loop-again c =
-    let l = c .before .before in (
+    let call = c .before .before in
+    let l = call .before .before .before .before in
+    let a = l .before .before .before .args in
+    let b : ℕ = getD (a .from .now) (l .loop .i) 0 in
+    let small : b < 256 = omega (arith, call .before .shared-slice-known2 .given (l .loop .i)) in
+    let low : 257 * b % 256 ≡ b = omega arith in
+    let high : 257 * b / 256 ≡ b = omega arith in
+    let stored = call .put-two .ensures ∙ (λ t. set (set (l .loop .inv .3 t) (2 * l .loop .i) (low t)) (2 * l .loop .i + 1) (high t)) in (
       refl,
       omega arith,
-      simp length-set (omega arith),
-      rw (l .loop .inv .3) (paint-pair (λ k. getD (l .before .args .from .now) k 0) _ (l .loop .i) _ (omega arith) refl),
+      omega (arith, simp length-set at (ap length (call .put-two .ensures))),
+      stored ∙ paint-pair (λ k. getD (a .from .now) k 0) _ (l .loop .i) b (omega arith) refl,
     )
 
 mul-end : tie.Need-mul-end Inv-loop μ-loop
@@ -69,8 +73,8 @@ returns c =
 shared-slice-read-dst : tie.Need-shared-slice-read-dst Inv-loop μ-loop
 shared-slice-read-dst c = omega arith
 
-slice-write-dst-3 : tie.Need-slice-write-dst-3 Inv-loop μ-loop
-slice-write-dst-3 c = omega arith
+slice-write-dst : tie.Need-slice-write-dst Inv-loop μ-loop
+slice-write-dst c = omega arith
 
 same-length-2 : tie.Need-same-length-2 Inv-loop μ-loop
 same-length-2 c = simp length-set (omega arith)
@@ -78,7 +82,7 @@ same-length-2 c = simp length-set (omega arith)
 returns-2 : tie.Need-returns-2 Inv-loop μ-loop
 returns-2 c =
     let l = c .before .before .before in
-    let a = l .before .args in
+    let a = l .before .before .before .args in
     let p : ℕ = length (a .dst .now) / 2 in
     let all : l .loop .i ≡ p = omega arith in
     let half : p ≡ 2 * p / 2 = omega arith in
@@ -92,12 +96,11 @@ spread-spec =
     Inv-loop
     μ-loop
     loop-holds
-    shared-slice-read-sample
-    mul-dst
-    slice-write-dst
-    mul-dst-2
-    add-dst
-    slice-write-dst-2
+    mul-put-two
+    shared-slice-read-put-two
+    cast-put-two
+    mul-put-two-2
+    put-two-requires
     add-i
     loop-less
     loop-again
@@ -105,6 +108,6 @@ spread-spec =
     same-length
     returns
     shared-slice-read-dst
-    slice-write-dst-3
+    slice-write-dst
     same-length-2
     returns-2)
