@@ -6,6 +6,7 @@ pub mod Cells
 pub mod Painted
 pub mod Taken
 pub mod Parts
+pub mod Front
 pub mod Rows
 pub mod Lists
 pub mod Samples

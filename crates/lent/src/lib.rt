@@ -4,6 +4,7 @@
 // number whose test holds (specs/Refusal.antt). The row writers promise every byte of the row that they are lent. Sizes are rounded
 // up, and buffers are found too short, for every size, stride and length, with no sum or product that wraps.
 pub mod words; // neighbouring bytes as one number
+pub mod long; // copies of many bytes
 
 ghost use mathlib.Core.Path.{_≡_};
 ghost use Prim.Native.Nat.{_+_, _*_, _/_, _≤_, _<_, min};
