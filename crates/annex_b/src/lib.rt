@@ -8,6 +8,7 @@ pub mod units; // the units that a payload is made of
 ghost use mathlib.Core.Path.{_≡_};
 ghost use mathlib.Core.List.{[], _∷_, _++_};
 ghost use Prim.Native.Nat.{_+_, _-_, _≤_};
+ghost use lib.Dec.{ltb};
 ghost use lib.ListN.{length, take, drop};
 ghost use lib.Seq.{sets};
 ghost use Rattle.lent.specs.Outcome.{Outcome, answerOf, lentAfter};
@@ -104,12 +105,13 @@ fn put_unit(s: &[u8], out: &mut [u8], at: usize, end: usize)
 {
     let start = at + 4;
     put_start_code(&mut out[at..start]);
-    lent::copy(&mut out[start..end], &s[start..end]);
+    lent::long::copy(&mut out[start..end], &s[start..end]);
 }
 
-fn annex_b(s: &[u8], out: &mut [u8])
+// The units in Annex B, into an output that has room for them. It answers how many bytes were written.
+fn annex_b(s: &[u8], out: &mut [u8]) -> usize
     requires { ⌜ countOf (now s) ≤ length (now out) ⌝ }
-    ensures { λ _. ⌜ now (out .exit) ≡ annexBOf (now (s .entry)) (now (out .entry)) ⌝ }
+    ensures { λ r. ⌜ (r ≡ countOf (now (s .entry))) × (now (out .exit) ≡ annexBOf (now (s .entry)) (now (out .entry))) ⌝ }
 {
     let mut c = Cursor::new();
     loop {
@@ -120,12 +122,23 @@ fn annex_b(s: &[u8], out: &mut [u8])
             next,
         } = step
         else {
-            return;
+            return c.at; // where the units end
         };
         let at = c.at;
         put_unit(s, out, at, end);
         c = next;
     }
+}
+
+// Whether an output of n bytes is too short. What is written is never longer than the input, so where the output is as long nothing is
+// counted, and the units are walked once, not twice.
+fn short(s: &[u8], n: usize) -> bool
+    ensures { λ r. ⌜ r ≡ ltb n (countOf (now (s .entry))) ⌝ }
+{
+    if s.len() <= n {
+        return false;
+    }
+    n < count(s)
 }
 
 // The units of a length-prefixed payload in Annex B (the Rust's avc_to_annex_b_into, into a lent buffer: 6 where it is too short).
@@ -134,14 +147,13 @@ pub fn avc_to_annex_b_into(data: &[u8], out: &mut [u8]) -> lent::Answer
         (lentAfter (annexNumber (now («data» .entry)) (now (out .entry))) (now (out .entry)) (annexBOf (now («data» .entry)) (now (out .entry))) ∷ [])
         r (now (out .exit) ∷ []) ⌝ }
 {
-    let n = count(data);
-    if out.len() < n {
+    if short(data, out.len()) {
         return lent::Answer {
             number: 6,
             count: 0,
         };
     }
-    annex_b(data, out);
+    let n = annex_b(data, out);
     lent::Answer {
         number: 0,
         count: n,

@@ -4,6 +4,7 @@
 // number whose test holds (specs/Refusal.antt). The row writers promise every byte of the row that they are lent. Sizes are rounded
 // up, and buffers are found too short, for every size, stride and length, with no sum or product that wraps.
 pub mod words; // neighbouring bytes as one number
+pub mod long; // copies of many bytes
 
 ghost use mathlib.Core.Path.{_≡_};
 ghost use Prim.Native.Nat.{_+_, _*_, _/_, _≤_, _<_, min};
@@ -22,7 +23,7 @@ pub struct Answer {
 
 // The first n bytes of dst become those of src. For a count that is fixed, or where one of the two is a local array: else the compiler
 // tests first whether they overlap.
-pub fn some(dst: &mut [u8], src: &[u8], n: usize)
+pub fn copy_front(dst: &mut [u8], src: &[u8], n: usize)
     requires { ⌜ n ≤ length (now dst) ⌝ }
     requires { ⌜ n ≤ length (now src) ⌝ }
     ensures { λ _. ⌜ now (dst .exit) ≡ paint (λ k. ltb k n) (λ k. getD (now (src .entry)) k 0) (now (dst .entry)) ⌝ }
@@ -40,11 +41,11 @@ fn copy_16(dst: &mut [u8], src: &[u8])
     ensures { λ _. ⌜ now (dst .exit) ≡ now (src .entry) ⌝ }
 {
     let mut t = [0u8; 16];
-    some(&mut t, src, 16);
-    some(dst, &t, 16);
+    copy_front(&mut t, src, 16);
+    copy_front(dst, &t, 16);
 }
 
-// dst becomes src, a few bytes. Not by `some`: then the compiler writes `copy` out at each of its calls, and long rows are slower.
+// dst becomes src, a few bytes. Not by `copy_front`: then the compiler writes `copy` out at each of its calls, and long rows are slower.
 fn copy_short(dst: &mut [u8], src: &[u8])
     requires { ⌜ length (now dst) ≡ length (now src) ⌝ }
     ensures { λ _. ⌜ now (dst .exit) ≡ now (src .entry) ⌝ }

@@ -1,12 +1,13 @@
--- One number more, and one part more; and how long a stream is.
+-- Numbers as their bytes, some more of them, and one part more of a stream; and how long it is.
 -- Assumes nothing.
-use Prim.Native.Nat.{ℕ, suc, _+_, _*_, _/_, _-_, _≤_, _<_}
+use Prim.Native.Nat.{ℕ, _+_, _*_, _/_, _-_, _≤_, _<_}
 use native.Mathlib.Omega.{arith}
 use mathlib.Core.Path.{_≡_, refl, sym, ap, _∙_}
 use mathlib.Core.List.{List, [], _∷_, _++_, append-assoc, append-nil}
 use borrow.Rule.Slice.PartMut.{putMid, postOf}
 use lib.ListN.{length, getD, take, drop, length-append, length-drop}
-use lib.Seq.{take-suc, drop-drop, drop-length, take-at, drop-at, length-take-le}
+use lib.Seq.{drop-cons, length-take-le}
+use Rattle.wire_write.proofs.Front.{fronted, Fronted, fronted-more, part-next, all-written, take-part}
 use Rattle.wire_fields.specs.Fields.{u16Bytes, u32Bytes}
 use Rattle.wire_fields.proofs.Bytes.{u16-long, u32-long}
 use Rattle.wire_read.specs.Format.{bytesOf}
@@ -24,37 +25,27 @@ number-bytes-append : (ms ns : List ℕ) → numberBytes (ms ++ ns) ≡ numberBy
 number-bytes-append [] ns = refl
 number-bytes-append (m ∷ ms) ns = ap (λ (l : List ℕ). u16Bytes m ++ l) (number-bytes-append ms ns) ∙ sym (append-assoc (u16Bytes m) (numberBytes ms) (numberBytes ns))
 
--- what stands in a part once xs are written: xs, and the rest as it was
-abbrev pub so-far : List ℕ → List ℕ → List ℕ
-so-far xs l = xs ++ drop (length xs) l
+-- the numbers from k to k + m were written behind those before them
+pub numbers-more : {was ys : List ℕ} (ns l : List ℕ) (k m b : ℕ) → b ≡ 2 * m → k + m ≤ length ns → 2 * (k + m) ≤ length l
+    → Fronted (numberBytes (take k ns)) l was
+    → ys ≡ numberBytes (take (k + m - k) (drop k ns))
+    → Fronted (numberBytes (take (k + m) ns)) l (putMid (2 * k) b was ys)
+numbers-more ns l k m b is fits room before back =
+    let more : numberBytes (take k ns) ++ numberBytes (take (k + m - k) (drop k ns)) ≡ numberBytes (take (k + m) ns) =
+    sym (number-bytes-append (take k ns) (take (k + m - k) (drop k ns))) ∙ ap numberBytes (take-part ns k m) in
+    fronted-more (2 * k) b before back more
+    (long (take k ns) k (length-take-le k ns (omega arith)))
+    (long (take (k + m - k) (drop k ns)) m (length-take-le (k + m - k) (drop k ns) (simp length-drop (omega arith)) ∙ omega arith) ∙ sym is)
+    (omega (arith, long (take (k + m) ns) (k + m) (length-take-le (k + m) ns fits)))
+  where
+    long : (ms : List ℕ) (n : ℕ) → length ms ≡ n → length (numberBytes ms) ≡ 2 * n
+    long ms n e = number-bytes-long ms ∙ ap (λ (j : ℕ). 2 * j) e
 
-pub so-far-long : (xs l : List ℕ) → length xs ≤ length l → length (so-far xs l) ≡ length l
-so-far-long xs l h = let a = length-append xs (drop (length xs) l) in let d = length-drop (length xs) l in omega arith
-
--- a part that was lent behind xs and came back as ys
-pub part-next : (xs ys l : List ℕ) (a k : ℕ) → length xs ≡ a → length ys ≡ k → putMid a k (so-far xs l) ys ≡ so-far (xs ++ ys) l
-part-next xs ys l a k e f =
-    let rest = drop (length xs) l in
-    let long : length xs + k ≡ length (xs ++ ys) = ap (λ (n : ℕ). length xs + n) (sym f) ∙ sym (length-append xs ys) in
-    (λ i. take-at xs rest a e i ++ (ys ++ drop k (drop-at xs rest a e i)))
-    ∙ ap (λ (r : List ℕ). xs ++ (ys ++ r)) (drop-drop k (length xs) l ∙ ap (λ (n : ℕ). drop n l) long)
-    ∙ sym (append-assoc xs ys (drop (length (xs ++ ys)) l))
-
--- all of it
-pub all-written : (xs l : List ℕ) → length xs ≡ length l → so-far xs l ≡ xs
-all-written xs l e = ap (λ (r : List ℕ). xs ++ r) (ap (λ (n : ℕ). drop n l) e ∙ drop-length l) ∙ append-nil xs
-
--- one number more
-pub number-next : (ns l : List ℕ) (i : ℕ) → i < length ns
-    → putMid (2 * i) (2 * i + 2 - 2 * i) (so-far (numberBytes (take i ns)) l) (u16Bytes (getD ns i 0)) ≡ so-far (numberBytes (take (suc i) ns)) l
-number-next ns l i h =
-    let n = getD ns i 0 in
-    let xs = numberBytes (take i ns) in
-    let long : length xs ≡ 2 * i = number-bytes-long (take i ns) ∙ ap (λ (k : ℕ). 2 * k) (length-take-le i ns (omega arith)) in
-    let two : 2 ≡ 2 * i + 2 - 2 * i = omega arith in
-    let more : numberBytes (take (suc i) ns) ≡ xs ++ u16Bytes n =
-    ap numberBytes (take-suc ns i 0 h) ∙ number-bytes-append (take i ns) (n ∷ []) ∙ ap (λ (b : List ℕ). xs ++ b) (append-nil (u16Bytes n)) in
-    part-next xs (u16Bytes n) l (2 * i) (2 * i + 2 - 2 * i) long (u16-long n ∙ two) ∙ ap (λ (b : List ℕ). so-far b l) (sym more)
+-- one number, as the numbers from i to i + 1
+pub number-at : (ns : List ℕ) (i : ℕ) → i < length ns → u16Bytes (getD ns i 0) ≡ numberBytes (take (i + 1 - i) (drop i ns))
+number-at ns i h =
+    let one : 1 ≡ i + 1 - i = omega arith in
+    sym (append-nil (u16Bytes (getD ns i 0))) ∙ (λ j. numberBytes (take (one j) (sym (drop-cons ns i 0 h) j)))
 
 pub stream-long : (rs ps hs : List ℕ) → length (bytesOf (partsFrom rs ps hs)) ≡ streamLength (length rs) (length ps) (length hs)
 stream-long rs ps hs =
@@ -79,7 +70,7 @@ module _ (l rs ps hs : List ℕ) (whole : length l ≡ streamLength (length rs) 
   abbrev end : ℕ
   end = second + length hs
 
-  after-count : {c : List ℕ} → c ≡ count → c ++ postOf 0 4 l ≡ so-far count l
+  after-count : {c : List ℕ} → c ≡ count → c ++ postOf 0 4 l ≡ fronted count l
   after-count e = ap (λ (c : List ℕ). c ++ drop 4 l) e ∙ ap (λ (n : ℕ). count ++ drop n l) (sym (u32-long (length rs / 4)))
 
   numbers-end : length (count ++ numberBytes rs) ≡ first

@@ -8,11 +8,12 @@ use mathlib.Core.List.{List, [], _∷_, _++_, append-assoc}
 use borrow.Rule.Slice.PartMut.{putMid, postOf}
 use lib.ListN.{length, take, drop, length-append, length-drop}
 use lib.Seq.{length-take-le}
+use Rattle.wire_write.proofs.Front.{fronted, part-next}
 use Rattle.wire_fields.specs.Fields.{u32Bytes, infoOf}
 use Rattle.wire_fields.proofs.Bytes.{u32-long}
 use Rattle.wire_read.specs.Reading.{carriesLuma, carriesChroma}
 use Rattle.wire_read.specs.Format.{bytesOf}
-use Rattle.wire_write.proofs.Stream.{so-far, part-next, stream-long}
+use Rattle.wire_write.proofs.Stream.{stream-long}
 use Rattle.wire_write.specs.Number.{bytesFor, payloadBytes}
 use Rattle.wire_write.specs.Writing.{Given, sizesGiven, partsGiven, sizeFor, payloadOf, Placed}
 
@@ -63,7 +64,7 @@ module _ (kind : ℕ) (l c : Given) where
     size-is : middle - 4 ≡ sizeFor kind l
     size-is = omega (arith, p)
 
-    luma-written : {x ls : List ℕ} → x ≡ u32Bytes (infoOf kind (middle - 4)) → ls ≡ luma → putMid 4 (middle - 4) (x ++ postOf 0 4 out) ls ≡ so-far (head ++ luma) out
+    luma-written : {x ls : List ℕ} → x ≡ u32Bytes (infoOf kind (middle - 4)) → ls ≡ luma → putMid 4 (middle - 4) (x ++ postOf 0 4 out) ls ≡ fronted (head ++ luma) out
     luma-written {x} {ls} e f =
         let d = u32-long (infoOf kind (sizeFor kind l)) in
         let is : x ≡ head = e ∙ ap (λ (n : ℕ). u32Bytes (infoOf kind n)) size-is in

@@ -1,5 +1,5 @@
 -- `annex_b::annex_b` meets its contract. The invariant: the units after the position, put in their place, make the output that all units
--- make of the output at the start.
+-- make of the output at the start; and the position and these units are all that is counted.
 -- Assumes nothing.
 use borrow.Author.Needs.{needs}
 use Prim.Native.Nat.{_+_, _-_}
@@ -11,7 +11,7 @@ use Rattle.annex_b.specs.Units.{unitsFrom}
 use Rattle.annex_b.specs.Format.{summed}
 use Rattle.annex_b.specs.AnnexB.{countOf, annexed}
 use Rattle.annex_b.proofs.UnitLaws.{Found, found, found-none}
-use Rattle.annex_b.proofs.Made.{summed-more}
+use Rattle.annex_b.proofs.Made.{summed-more, summed-none}
 use Rattle.annex_b.proofs.Written.{put-more, put-none, put-all}
 use Rattle.annex_b.proofs.annex_b.Statement.{statement}
 use Rattle.annex_b.proofs.annex_b.Tie as tie
@@ -49,9 +49,10 @@ returns : tie.Need-returns Inv-loop μ-loop
 returns c =
     let l = c .before .before .before in
     let a = l .before .before .before .before .args in
-    put-none (a .s .now) (l .loop .out) (l .loop .c .at) (found-none (a .s .now) (l .loop .c .at) (c .before .before .step .ensures) (c .enum-told .given .1))
-    ∙ l .loop .inv .2
-    ∙ put-all (a .s .now) (a .out .now) (omega arith)
+    let none = found-none (a .s .now) (l .loop .c .at) (c .before .before .step .ensures) (c .enum-told .given .1) in (
+      summed-none (a .s .now) (l .loop .c .at) none ∙ l .loop .inv .1,
+      put-none (a .s .now) (l .loop .out) (l .loop .c .at) none ∙ l .loop .inv .2 ∙ put-all (a .s .now) (a .out .now) (omega arith),
+    )
 
 put-unit-requires : tie.Need-put-unit-requires Inv-loop μ-loop
 put-unit-requires c κs =

@@ -1,78 +1,83 @@
--- `wire_write::put::put_numbers` meets its contract. The invariant: the numbers below i are written, the rest is as it was.
+-- `wire_write::put::put_numbers` meets its contract. The invariant: the numbers below k are written, the rest is as it was.
 -- Assumes nothing.
-use Prim.Native.Nat.{ℕ, suc, _+_, _*_, _-_, _≤_}
+use borrow.Author.Needs.{needs}
+use Prim.Native.Nat.{ℕ, _+_, _*_, _-_, _≤_}
 use native.Mathlib.Omega.{arith}
-use mathlib.Core.Path.{_≡_, refl, sym, ap, _∙_}
+use mathlib.Core.Path.{_≡_, ap, _∙_}
 use mathlib.Core.List.{List}
-use borrow.Rule.Slice.PartMut.{putMid}
-use lib.ListN.{length, take, drop, length-drop}
-use lib.Seq.{take-length, length-take-le}
+use lib.ListN.{length, take}
+use lib.Seq.{take-all}
+use Rattle.wire_write.proofs.Front.{fronted, Fronted, fronted-none, all-written}
 use Rattle.wire_write.specs.Stream.{numberBytes}
-use Rattle.wire_write.proofs.Stream.{so-far, so-far-long, all-written, number-next, number-bytes-long}
+use Rattle.wire_write.proofs.Stream.{numbers-more, number-bytes-long}
 use Rattle.wire_write.proofs.put.put_numbers.Statement.{statement}
 use Rattle.wire_write.proofs.put.put_numbers.Tie as tie
 
 abbrev Inv-loop : tie.InvT-loop
-Inv-loop dst₀ numbers i₀ dst i = (i ≤ length numbers) × (length dst ≡ length dst₀) × (dst ≡ so-far (numberBytes (take i numbers)) dst₀)
+Inv-loop dst₀ numbers n k₀ dst k = (k ≤ length numbers) × Fronted (numberBytes (take k numbers)) dst₀ dst
 
 abbrev μ-loop : tie.MeasureT-loop
-μ-loop dst₀ numbers i₀ dst i = length numbers - i
+μ-loop dst₀ numbers n k₀ dst k = length numbers - k
 
 loop-holds : tie.Need-loop-holds Inv-loop μ-loop
-loop-holds c = (omega arith, refl, refl)
+loop-holds c = (omega arith, fronted-none _)
 
-mul-put-u16 : tie.Need-mul-put-u16 Inv-loop μ-loop
-mul-put-u16 c = omega arith
+sub-least : tie.Need-sub-least Inv-loop μ-loop
+sub-least c = omega arith
 
-mul-put-u16-2 : tie.Need-mul-put-u16-2 Inv-loop μ-loop
-mul-put-u16-2 c = omega arith
+least-requires : tie.Need-least-requires Inv-loop μ-loop
+least-requires c κs = search needs
 
-add-put-u16 : tie.Need-add-put-u16 Inv-loop μ-loop
-add-put-u16 c = omega arith
+mul-numbers-part : tie.Need-mul-numbers-part Inv-loop μ-loop
+mul-numbers-part c = omega arith
 
-sub-put-u16 : tie.Need-sub-put-u16 Inv-loop μ-loop
-sub-put-u16 c = omega arith
+add-numbers-part : tie.Need-add-numbers-part Inv-loop μ-loop
+add-numbers-part c = omega arith
 
-part-put-u16-start : tie.Need-part-put-u16-start Inv-loop μ-loop
-part-put-u16-start c = omega arith
+mul-numbers-part-2 : tie.Need-mul-numbers-part-2 Inv-loop μ-loop
+mul-numbers-part-2 c = omega arith
 
-part-put-u16-end : tie.Need-part-put-u16-end Inv-loop μ-loop
-part-put-u16-end c = omega arith
+sub-numbers-part : tie.Need-sub-numbers-part Inv-loop μ-loop
+sub-numbers-part c = omega arith
 
-mul-put-u16-3 : tie.Need-mul-put-u16-3 Inv-loop μ-loop
-mul-put-u16-3 c = omega arith
+part-numbers-part-start : tie.Need-part-numbers-part-start Inv-loop μ-loop
+part-numbers-part-start c = omega arith
 
-shared-slice-read-put-u16 : tie.Need-shared-slice-read-put-u16 Inv-loop μ-loop
-shared-slice-read-put-u16 c = omega arith
+part-numbers-part-end : tie.Need-part-numbers-part-end Inv-loop μ-loop
+part-numbers-part-end c = omega arith
 
-put-u16-requires : tie.Need-put-u16-requires Inv-loop μ-loop
-put-u16-requires c κs =
-    let l = c .before .before .before .loop in
-    let two : 2 * l .i + 2 - 2 * l .i ≡ 2 = omega arith in
-    ap (λ (k : ℕ). length (take k (drop (2 * l .i) (l .dst)))) two ∙ length-take-le 2 (drop (2 * l .i) (l .dst)) (let d = length-drop (2 * l .i) (l .dst) in omega arith)
+add-numbers-part-2 : tie.Need-add-numbers-part-2 Inv-loop μ-loop
+add-numbers-part-2 c = omega arith
 
-add-i : tie.Need-add-i Inv-loop μ-loop
-add-i c = omega arith
+mul-numbers-part-3 : tie.Need-mul-numbers-part-3 Inv-loop μ-loop
+mul-numbers-part-3 c = omega arith
+
+sub-numbers-part-2 : tie.Need-sub-numbers-part-2 Inv-loop μ-loop
+sub-numbers-part-2 c = omega arith
+
+part-numbers-part-start-2 : tie.Need-part-numbers-part-start-2 Inv-loop μ-loop
+part-numbers-part-start-2 c = omega arith
+
+part-numbers-part-end-2 : tie.Need-part-numbers-part-end-2 Inv-loop μ-loop
+part-numbers-part-end-2 c = omega arith
+
+numbers-part-requires : tie.Need-numbers-part-requires Inv-loop μ-loop
+numbers-part-requires c κs = search needs
+
+add-k : tie.Need-add-k Inv-loop μ-loop
+add-k c = omega arith
 
 loop-less : tie.Need-loop-less Inv-loop μ-loop
 loop-less c = omega arith
 
 loop-again : tie.Need-loop-again Inv-loop μ-loop
 loop-again c =
-    let l = c .before .before .before .before .before .before in
+    let m = c .before .before .before .before .before .least .result in
+    let l = c .before .before .before .before .before .before .before in
+    let k = l .loop .k in
     let a = l .before .before .before .args in
-    let i = l .loop .i in
-    let next : i + 1 ≡ suc i = omega arith in
-    let written =
-    (λ j. putMid (2 * i) (2 * i + 2 - 2 * i) (l .loop .inv .2 j) (c .before .before .put-u16 .ensures j))
-    ∙ number-next (a .numbers .now) (a .dst .now) i (omega arith)
-    ∙ ap (λ (k : ℕ). so-far (numberBytes (take k (a .numbers .now))) (a .dst .now)) (sym next) in
-    let before = number-bytes-long (take (i + 1) (a .numbers .now)) in
-    let many = length-take-le (i + 1) (a .numbers .now) (omega arith) in (
-      omega arith,
-      ap length written ∙ so-far-long (numberBytes (take (i + 1) (a .numbers .now))) (a .dst .now) (omega arith),
-      written,
-    )
+    let written = c .before .before .numbers-part .ensures in
+    (omega arith, numbers-more (a .numbers .now) (a .dst .now) k m (2 * (k + m) - 2 * k) (omega arith) (omega arith) (omega arith) (l .loop .inv .1) written)
 
 same-length : tie.Need-same-length Inv-loop μ-loop
 same-length c = omega arith
@@ -82,10 +87,9 @@ returns c =
     let l = c .before in
     let a = l .before .before .before .args in
     let ns = a .numbers .now in
-    let all : l .loop .i ≡ length ns = omega arith in
-    l .loop .inv .2
-    ∙ ap (λ (xs : List ℕ). so-far (numberBytes xs) (a .dst .now)) (ap (λ (k : ℕ). take k ns) all ∙ take-length ns)
-    ∙ all-written (numberBytes ns) (a .dst .now) (number-bytes-long ns ∙ sym (l .before .before .before .pre))
+    let all : take (l .loop .k) ns ≡ ns = take-all (l .loop .k) ns (omega arith) in
+    let long = number-bytes-long ns in
+    l .loop .inv .1 .is ∙ ap (λ (xs : List ℕ). fronted (numberBytes xs) (a .dst .now)) all ∙ all-written (numberBytes ns) (a .dst .now) (omega arith)
 
 pub put-numbers-spec : {M : Type 1} → statement M
 put-numbers-spec =
@@ -94,16 +98,21 @@ put-numbers-spec =
     Inv-loop
     μ-loop
     loop-holds
-    mul-put-u16
-    mul-put-u16-2
-    add-put-u16
-    sub-put-u16
-    part-put-u16-start
-    part-put-u16-end
-    mul-put-u16-3
-    shared-slice-read-put-u16
-    put-u16-requires
-    add-i
+    sub-least
+    least-requires
+    mul-numbers-part
+    add-numbers-part
+    mul-numbers-part-2
+    sub-numbers-part
+    part-numbers-part-start
+    part-numbers-part-end
+    add-numbers-part-2
+    mul-numbers-part-3
+    sub-numbers-part-2
+    part-numbers-part-start-2
+    part-numbers-part-end-2
+    numbers-part-requires
+    add-k
     loop-less
     loop-again
     same-length

@@ -1,12 +1,12 @@
--- `lent::some` meets its contract. The invariant: the first i bytes are painted from src.
+-- `lent::copy_front` meets its contract. The invariant: the first i bytes are painted from src.
 -- Assumes nothing.
 use Prim.Native.Nat.{_≤_, _-_}
 use native.Mathlib.Omega.{arith}
 use mathlib.Core.Path.{_≡_, refl}
 use lib.ListN.{getD}
 use Rattle.lent.proofs.SoFar.{SoFar, so-far-none, so-far-more}
-use Rattle.lent.proofs.some.Statement.{statement}
-use Rattle.lent.proofs.some.Tie as tie
+use Rattle.lent.proofs.copy_front.Statement.{statement}
+use Rattle.lent.proofs.copy_front.Tie as tie
 
 abbrev Inv-loop : tie.InvT-loop
 Inv-loop dst₀ src n i₀ dst i = (i ≤ n) × SoFar (λ k. getD src k 0) dst₀ dst i
@@ -41,8 +41,8 @@ returns c =
     let done : l .loop .i ≡ l .before .args .n = omega arith in
     rw done at (l .loop .inv .1 .1)
 
-pub some-spec : {M : Type 1} → statement M
-some-spec =
+pub copy-front-spec : {M : Type 1} → statement M
+copy-front-spec =
     tie.close
     (tie.spec
     Inv-loop
