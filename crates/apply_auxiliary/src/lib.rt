@@ -10,21 +10,21 @@ ghost use lib.ListN.{length};
 ghost use Rattle.lent.specs.Paint.{painted};
 ghost use Rattle.picture.specs.Sizes.{strideOf, rowsOf};
 ghost use Rattle.view.specs.View.{ViewFits};
+ghost use Rattle.layout.specs.declared.Chroma.the-variants.{CU, CV};
 ghost use Rattle.rects.specs.Rects.{by};
 ghost use Rattle.apply_auxiliary_rows.specs.Rows.{auxiliarySource, auxiliaryRow, AreaFits};
 ghost use Rattle.apply_auxiliary.specs.Auxiliary.{auxiliaryIn, auxiliaryRule, auxiliaryAfter, ApplyAuxiliaryViewOutcome};
-use layout::Chroma;
 use layout::Layout;
 use picture::Size;
 use rects::Area;
 use rects::Rect;
 use view::View;
 
-// One row of a chroma plane, by either layout.
+// One row of both chroma planes, by either layout.
 fn auxiliary_row(
     layout: Layout,
-    which: Chroma,
-    dst: &mut [u8],
+    u: &mut [u8],
+    v: &mut [u8],
     size: Size,
     w: View,
     vy: &[u8],
@@ -34,44 +34,25 @@ fn auxiliary_row(
     left: usize,
     right: usize,
 )
-    requires { ⌜ AreaFits size (length (now dst)) (row + 1) left right ⌝ }
+    requires { ⌜ AreaFits size (length (now u)) (row + 1) left right ⌝ }
+    requires { ⌜ AreaFits size (length (now v)) (row + 1) left right ⌝ }
     requires { ⌜ ViewFits w (length (now vy)) (length (now vu)) (length (now vv)) ⌝ }
-    ensures { λ _. ⌜ now (dst .exit) ≡ painted (strideOf size) (rowsOf size) (auxiliaryRow layout w row left right)
-        (auxiliarySource layout which w (now (vy .entry)) (now (vu .entry)) (now (vv .entry))) (now (dst .entry)) ⌝ }
+    ensures u { λ _. ⌜ now (u .exit) ≡ painted (strideOf size) (rowsOf size) (auxiliaryRow layout w row left right)
+        (auxiliarySource layout CU w (now (vy .entry)) (now (vu .entry)) (now (vv .entry))) (now (u .entry)) ⌝ }
+    ensures v { λ _. ⌜ now (v .exit) ≡ painted (strideOf size) (rowsOf size) (auxiliaryRow layout w row left right)
+        (auxiliarySource layout CV w (now (vy .entry)) (now (vu .entry)) (now (vv .entry))) (now (v .entry)) ⌝ }
 {
     match layout {
-        Layout::V1 => apply_auxiliary_rows::v1::v1_row(
-            which,
-            dst,
-            size,
-            w,
-            vy,
-            vu,
-            vv,
-            row,
-            left,
-            right,
-        ),
-        Layout::V2 => apply_auxiliary_rows::v2::v2_row(
-            which,
-            dst,
-            size,
-            w,
-            vy,
-            vu,
-            vv,
-            row,
-            left,
-            right,
-        ),
+        Layout::V1 => apply_auxiliary_rows::v1::v1_row(u, v, size, w, vy, vu, vv, row, left, right),
+        Layout::V2 => apply_auxiliary_rows::v2::v2_row(u, v, size, w, vy, vu, vv, row, left, right),
     }
 }
 
 // The rows of the area, one after the other.
 fn auxiliary_rows(
     layout: Layout,
-    which: Chroma,
-    plane: &mut [u8],
+    u: &mut [u8],
+    v: &mut [u8],
     size: Size,
     area: Area,
     w: View,
@@ -79,17 +60,20 @@ fn auxiliary_rows(
     vu: &[u8],
     vv: &[u8],
 )
-    requires { ⌜ AreaFits size (length (now plane)) (area .bottom) (area .left) (area .right) ⌝ }
+    requires { ⌜ AreaFits size (length (now u)) (area .bottom) (area .left) (area .right) ⌝ }
+    requires { ⌜ AreaFits size (length (now v)) (area .bottom) (area .left) (area .right) ⌝ }
     requires { ⌜ ViewFits w (length (now vy)) (length (now vu)) (length (now vv)) ⌝ }
-    ensures { λ _. ⌜ now (plane .exit) ≡ painted (strideOf size) (rowsOf size) (auxiliaryIn layout w area)
-        (auxiliarySource layout which w (now (vy .entry)) (now (vu .entry)) (now (vv .entry))) (now (plane .entry)) ⌝ }
+    ensures u { λ _. ⌜ now (u .exit) ≡ painted (strideOf size) (rowsOf size) (auxiliaryIn layout w area)
+        (auxiliarySource layout CU w (now (vy .entry)) (now (vu .entry)) (now (vv .entry))) (now (u .entry)) ⌝ }
+    ensures v { λ _. ⌜ now (v .exit) ≡ painted (strideOf size) (rowsOf size) (auxiliaryIn layout w area)
+        (auxiliarySource layout CV w (now (vy .entry)) (now (vu .entry)) (now (vv .entry))) (now (v .entry)) ⌝ }
 {
     let mut row = area.top;
     while row < area.bottom {
         auxiliary_row(
             layout,
-            which,
-            plane,
+            u,
+            v,
             size,
             w,
             vy,
@@ -106,8 +90,8 @@ fn auxiliary_rows(
 // What the view gives in the widened area of one rectangle.
 fn auxiliary_rect(
     layout: Layout,
-    which: Chroma,
-    plane: &mut [u8],
+    u: &mut [u8],
+    v: &mut [u8],
     size: Size,
     rect: Rect,
     w: View,
@@ -115,23 +99,26 @@ fn auxiliary_rect(
     vu: &[u8],
     vv: &[u8],
 )
-    requires { ⌜ rowsOf size * strideOf size ≤ length (now plane) ⌝ }
+    requires { ⌜ rowsOf size * strideOf size ≤ length (now u) ⌝ }
+    requires { ⌜ rowsOf size * strideOf size ≤ length (now v) ⌝ }
     requires { ⌜ ViewFits w (length (now vy)) (length (now vu)) (length (now vv)) ⌝ }
-    ensures { λ _. ⌜ now (plane .exit) ≡ painted (strideOf size) (rowsOf size) (by (auxiliaryRule layout size w) rect)
-        (auxiliarySource layout which w (now (vy .entry)) (now (vu .entry)) (now (vv .entry))) (now (plane .entry)) ⌝ }
+    ensures u { λ _. ⌜ now (u .exit) ≡ painted (strideOf size) (rowsOf size) (by (auxiliaryRule layout size w) rect)
+        (auxiliarySource layout CU w (now (vy .entry)) (now (vu .entry)) (now (vv .entry))) (now (u .entry)) ⌝ }
+    ensures v { λ _. ⌜ now (v .exit) ≡ painted (strideOf size) (rowsOf size) (by (auxiliaryRule layout size w) rect)
+        (auxiliarySource layout CV w (now (vy .entry)) (now (vu .entry)) (now (vv .entry))) (now (v .entry)) ⌝ }
 {
     let area = rects::chroma_block_area(size, rect.left, rect.top, rect.right, rect.bottom);
     if area.right <= area.left {
         return;
     }
-    auxiliary_rows(layout, which, plane, size, area, w, vy, vu, vv);
+    auxiliary_rows(layout, u, v, size, area, w, vy, vu, vv);
 }
 
-// What the view gives in any rectangle of the list.
+// What the view gives in any rectangle of the list, to U and V in one walk: a small rectangle's cost is that of finding its rows.
 fn auxiliary_rects(
     layout: Layout,
-    which: Chroma,
-    plane: &mut [u8],
+    u: &mut [u8],
+    v: &mut [u8],
     size: Size,
     rects: &[u16],
     w: View,
@@ -139,16 +126,19 @@ fn auxiliary_rects(
     vu: &[u8],
     vv: &[u8],
 )
-    requires { ⌜ rowsOf size * strideOf size ≤ length (now plane) ⌝ }
+    requires { ⌜ rowsOf size * strideOf size ≤ length (now u) ⌝ }
+    requires { ⌜ rowsOf size * strideOf size ≤ length (now v) ⌝ }
     requires { ⌜ ViewFits w (length (now vy)) (length (now vu)) (length (now vv)) ⌝ }
-    ensures { λ _. ⌜ now (plane .exit) ≡ auxiliaryAfter layout which size w (now (rects .entry))
-        (now (vy .entry)) (now (vu .entry)) (now (vv .entry)) (now (plane .entry)) ⌝ }
+    ensures u { λ _. ⌜ now (u .exit) ≡ auxiliaryAfter layout CU size w (now (rects .entry))
+        (now (vy .entry)) (now (vu .entry)) (now (vv .entry)) (now (u .entry)) ⌝ }
+    ensures v { λ _. ⌜ now (v .exit) ≡ auxiliaryAfter layout CV size w (now (rects .entry))
+        (now (vy .entry)) (now (vu .entry)) (now (vv .entry)) (now (v .entry)) ⌝ }
 {
     let count = rects.len() / 4;
     let mut i = 0;
     while i < count {
         let rect = rects::rect_at(rects, i);
-        auxiliary_rect(layout, which, plane, size, rect, w, vy, vu, vv);
+        auxiliary_rect(layout, u, v, size, rect, w, vy, vu, vv);
         i += 1;
     }
 }
@@ -177,8 +167,7 @@ pub fn apply_auxiliary_view(
             count: 0,
         };
     }
-    auxiliary_rects(layout, Chroma::CU, u, size, rects, w, vy, vu, vv);
-    auxiliary_rects(layout, Chroma::CV, v, size, rects, w, vy, vu, vv);
+    auxiliary_rects(layout, u, v, size, rects, w, vy, vu, vv);
     lent::Answer {
         number: 0,
         count: 0,

@@ -17,6 +17,13 @@ use Rattle.columns.specs.Fits.{OddsFit, EvensFit}
 use Rattle.apply_auxiliary_rows.specs.Rows.{AreaFits}
 use Rattle.apply_auxiliary_rows.proofs.Columns.{columns-same}
 
+-- the part `&xs[a..e]`, and xs when it has come back as ys
+abbrev pub part : List ℕ → ℕ → ℕ → List ℕ
+part xs a e = take (e - a) (drop a xs)
+
+abbrev pub backIn : List ℕ → ℕ → ℕ → List ℕ → List ℕ
+backIn xs a e ys = take a xs ++ (ys ++ drop (e - a) (drop a xs))
+
 -- a part's places are the row's columns
 rowPart-in : (p t : ℕ → Bool) (row left stop j : ℕ) → left + j < stop → p (left + j) ≡ t j → rowPart p row left stop row (left + j) ≡ t j
 rowPart-in p t row left stop j h e =
@@ -37,22 +44,24 @@ narrower fits ordered below even = record {
 
 -- n is the code's stride
 module _ (z : Size) (xs : List ℕ) (row left right : ℕ) (fits : AreaFits z (length xs) (row + 1) left right) (n : ℕ) (is-stride : n ≡ strideOf z) where
-  -- the row lies in the plane
-  pub area-row : row * n + strideOf z ≤ length xs
-  area-row = subst (λ (m : ℕ). row * m + strideOf z ≤ length xs) (sym is-stride) (omega (arith, fits .plane-fits, row-in (strideOf z) (rowsOf z) row (omega (arith, fits .rows-inside))))
+  -- the columns below `stop` lie in the plane
+  pub area-room : (stop : ℕ) → stop ≤ right → row * n + stop ≤ length xs
+  area-room stop below =
+      subst (λ (m : ℕ). row * m + stop ≤ length xs) (sym is-stride)
+      (omega (arith, fits .plane-fits, fits .inside, row-in (strideOf z) (rowsOf z) row (omega (arith, fits .rows-inside))))
 
   -- the columns from left to below `stop` were lent and came back painted, which is what is to be written below `right`
   pub area-written : (stop : ℕ) (p q t : ℕ → Bool) (s : ℕ → ℕ → ℕ) (u : ℕ → ℕ) (ys : List ℕ) → left ≤ stop → stop ≤ right
-      → ys ≡ paint t u (take (row * n + stop - (row * n + left)) (drop (row * n + left) xs))
+      → ys ≡ paint t u (part xs (row * n + left) (row * n + stop))
       → ((j : ℕ) → left + j < stop → p (left + j) ≡ t j)
       → ((j : ℕ) → left + j < stop → t j ≡ true → u j ≡ s row (left + j))
       → ((c : ℕ) → left ≤ c → c < stop → p c ≡ true → (c < right) × (q c ≡ true))
       → ((c : ℕ) → left ≤ c → c < right → q c ≡ true → (c < stop) × (p c ≡ true))
-      → take (row * n + left) xs ++ (ys ++ drop (row * n + stop - (row * n + left)) (drop (row * n + left) xs)) ≡ painted (strideOf z) (rowsOf z) (rowPart q row left right) s xs
+      → backIn xs (row * n + left) (row * n + stop) ys ≡ painted (strideOf z) (rowsOf z) (rowPart q row left right) s xs
   area-written stop p q t s u ys ordered below is same from f g =
       subst
-      (λ (m : ℕ). ys ≡ paint t u (take (row * m + stop - (row * m + left)) (drop (row * m + left) xs))
-      → take (row * m + left) xs ++ (ys ++ drop (row * m + stop - (row * m + left)) (drop (row * m + left) xs)) ≡ painted (strideOf z) (rowsOf z) (rowPart p row left stop) s xs)
+      (λ (m : ℕ). ys ≡ paint t u (part xs (row * m + left) (row * m + stop))
+      → backIn xs (row * m + left) (row * m + stop) ys ≡ painted (strideOf z) (rowsOf z) (rowPart p row left stop) s xs)
       (sym is-stride)
       (λ is. painted-row (strideOf z) (rowsOf z) _ s xs (fits .plane-fits) row left stop t u ys (omega (arith, fits .rows-inside)) ordered (omega (arith, fits .inside)) is
       (λ j h. rowPart-in p t row left stop j h (same j h))
@@ -62,8 +71,13 @@ module _ (z : Size) (xs : List ℕ) (row left right : ℕ) (fits : AreaFits z (l
       ∙ columns-same (strideOf z) (rowsOf z) row left xs stop right p q s s f g (λ c e. refl)
 
 -- what the row writers ask of the parts
-part-long : (xs : List ℕ) (a e n : ℕ) → a + n ≡ e → e ≤ length xs → length (take (e - a) (drop a xs)) ≡ n
+part-long : (xs : List ℕ) (a e n : ℕ) → a + n ≡ e → e ≤ length xs → length (part xs a e) ≡ n
 part-long xs a e n is fits = length-take-le (e - a) (drop a xs) (simp length-drop (omega arith)) ∙ omega arith
+
+pub copy-fits : (xs src : List ℕ) (line at left stop : ℕ) → line + stop ≤ length xs → at + stop ≤ length src → left ≤ stop
+    → length (part xs (line + left) (line + stop)) ≡ length (part src (at + left) (at + stop))
+copy-fits xs src line at left stop room seen ordered =
+    part-long xs (line + left) (line + stop) (stop - left) (omega arith) room ∙ sym (part-long src (at + left) (at + stop) (stop - left) (omega arith) seen)
 
 -- as many turns are there as are read from the first one on
 turns-room : (left n stop : ℕ) → left % 2 ≡ 0 → n % 2 ≡ 0 → left + n ≡ stop → (left / 2 % 2 + n / 2 + 1) / 2 + left / 4 ≡ (stop / 2 + 1) / 2
@@ -76,18 +90,18 @@ turns-room left n stop e e′ is =
     halves a b = omega arith
 
 module _ (xs : List ℕ) (line left stop : ℕ) (room : line + stop ≤ length xs) (by-two : left % 2 ≡ 0) (to-two : stop % 2 ≡ 0) (ordered : left ≤ stop) where
-  lent-long : length (take (line + stop - (line + left)) (drop (line + left) xs)) ≡ stop - left
+  lent-long : length (part xs (line + left) (line + stop)) ≡ stop - left
   lent-long = part-long xs (line + left) (line + stop) (stop - left) (omega arith) room
 
   pub odds-fit : (src : List ℕ) (at : ℕ) → at + stop / 2 ≤ length src
-      → OddsFit (length (take (line + stop - (line + left)) (drop (line + left) xs))) (length (take (at + stop / 2 - (at + left / 2)) (drop (at + left / 2) src)))
+      → OddsFit (length (part xs (line + left) (line + stop))) (length (part src (at + left / 2) (at + stop / 2)))
   odds-fit src at seen =
       rw (lent-long, part-long src (at + left / 2) (at + stop / 2) ((stop - left) / 2) (omega arith) seen)
       record { pairs = omega arith; seen = omega arith }
 
   pub evens-fit : (u v : List ℕ) (at : ℕ) → at + (stop / 2 + 1) / 2 ≤ length u → at + (stop / 2 + 1) / 2 ≤ length v
-      → EvensFit (length (take (line + stop - (line + left)) (drop (line + left) xs))) (length (take (at + (stop / 2 + 1) / 2 - (at + left / 4)) (drop (at + left / 4) u)))
-      (length (take (at + (stop / 2 + 1) / 2 - (at + left / 4)) (drop (at + left / 4) v))) (left / 2 % 2)
+      → EvensFit (length (part xs (line + left) (line + stop))) (length (part u (at + left / 4) (at + (stop / 2 + 1) / 2)))
+      (length (part v (at + left / 4) (at + (stop / 2 + 1) / 2))) (left / 2 % 2)
   evens-fit u v at in-u in-v =
       let turns : ℕ = (left / 2 % 2 + (stop - left) / 2 + 1) / 2 in
       let there : at + left / 4 + turns ≡ at + (stop / 2 + 1) / 2 = omega (arith, turns-room left (stop - left) stop by-two (omega arith) (omega arith)) in

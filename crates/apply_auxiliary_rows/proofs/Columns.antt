@@ -1,8 +1,8 @@
--- Some columns of one row: none, the same ones from another source, two kinds that are all, and two stretches. Each is over any test and
--- any source. Assumes nothing.
+-- Some columns of one row: none, the same ones from another source, two kinds that are all, two stretches, and both of these. Each is over
+-- any test and any source. Assumes nothing.
 use Prim.Native.Nat.{ℕ, _<_, _≤_}
 use native.Mathlib.Omega.{arith}
-use mathlib.Core.Path.{_≡_, refl, sym, subst, _∙_}
+use mathlib.Core.Path.{_≡_, refl, sym, ap, subst, _∙_}
 use mathlib.Core.Bool.{Bool, true, _&&_, _||_}
 use mathlib.Core.Logic.{_⊎_, inl, inr, ⊎-elim}
 use mathlib.Core.List.{List}
@@ -67,3 +67,16 @@ module _ (w h row left : ℕ) (xs : List ℕ) where
       (λ r c e. let f = rowPart-facts q row mid right r c e in rowPart-holds q row left right r c (f .0) (omega arith) (f .2) (f .3))
       (λ r c e. let f = rowPart-facts q row left right r c e in
       ⊎-elim (λ lt. inl (rowPart-holds q row left mid r c (f .0) (f .1) lt (f .3))) (λ ge. inr (rowPart-holds q row mid right r c (f .0) ge (f .2) (f .3))) (split c mid))
+
+-- all columns of a first stretch, then those of a second, one kind after the other
+pub columns-row : (w h row left mid right : ℕ) (q k k′ : ℕ → Bool) (s : ℕ → ℕ → ℕ) (xs : List ℕ) {ys zs vs : List ℕ} → left ≤ mid → mid ≤ right → ((c : ℕ) → (k c ≡ true) ⊎ (k′ c ≡ true))
+    → ys ≡ painted w h (rowPart q row left mid) s xs
+    → zs ≡ painted w h (rowPart (λ c. q c && k c) row mid right) s ys
+    → vs ≡ painted w h (rowPart (λ c. q c && k′ c) row mid right) s zs
+    → vs ≡ painted w h (rowPart q row left right) s xs
+columns-row w h row left mid right q k k′ s xs {ys} low high all first one other =
+    other
+    ∙ ap (painted w h (rowPart (λ c. q c && k′ c) row mid right) s) one
+    ∙ columns-all w h row mid ys right q k k′ s all
+    ∙ ap (painted w h (rowPart q row mid right) s) first
+    ∙ columns-more w h row left xs mid right q s low high

@@ -9,7 +9,6 @@ use mathlib.Core.List.{List}
 use lib.Dec.{eqb}
 use lib.ListN.{getD, take, drop}
 use borrow.Author.Tests.{eq-eqb, eqb-true}
-use Rattle.lent.specs.Paint.{painted}
 use Rattle.lent.specs.Samples.{sample}
 use Rattle.lent.proofs.Bools.{never-true, cond-true, cond-false}
 use Rattle.view.specs.declared.View.{View}
@@ -20,8 +19,7 @@ use Rattle.layout.proofs.Spots.{v1-odd-spot, v1-even-spot, v2-odd-spot, v2-even
 use Rattle.columns.specs.Turns.{woven}
 use Rattle.columns.proofs.Sources.{part-at}
 use Rattle.columns.proofs.Turns.{parity, woven-odd, woven-even}
-use Rattle.apply_auxiliary_rows.specs.Rows.{partSample, viewSample, auxiliarySource, auxiliaryRow}
-use Rattle.apply_auxiliary_rows.proofs.Columns.{columns-same}
+use Rattle.apply_auxiliary_rows.specs.Rows.{partSample, viewSample, auxiliarySource}
 
 -- of the even columns, those by fours are from u, those between from v
 turns-part : (u v : List ℕ) (at left stop j : ℕ) → left % 2 ≡ 0 → stop % 2 ≡ 0 → left + j < stop → j % 2 ≡ 0
@@ -82,10 +80,3 @@ module _ (k : Chroma) (w : View) (vy vu vv : List ℕ) (r at left stop j : ℕ) 
       → woven (take (at + (stop / 2 + 1) / 2 - (at + left / 4)) (drop (at + left / 4) vu)) (take (at + (stop / 2 + 1) / 2 - (at + left / 4)) (drop (at + left / 4) vv)) (left / 2 % 2 + j / 2)
       ≡ auxiliarySource V2 k w vy vu vv r (left + j)
   v2-even-part is z = turns-part vu vv at left stop j by-two to-two below z ∙ sym (v2-even-source k w vy vu vv r (left + j) at is (omega arith))
-
--- V1, an even row: the samples are those of the view's plane of the same name
-pub v1-even-same : (k : Chroma) (w : View) (vy vu vv samples : List ℕ) (row left right n m : ℕ) (xs : List ℕ) → row % 2 ≡ 0
-    → ((r c : ℕ) → partSample w vy vu vv (partOf k) r c ≡ sample samples (w .«chroma_stride») r c)
-    → painted n m (auxiliaryRow V1 w row left right) (λ r c. sample samples (w .«chroma_stride») (r / 2) (c / 2)) xs ≡ painted n m (auxiliaryRow V1 w row left right) (auxiliarySource V1 k w vy vu vv) xs
-v1-even-same k w vy vu vv samples row left right n m xs by from =
-    columns-same n m row left xs right right _ _ _ _ (λ c l h e. (h, e)) (λ c l h e. (h, e)) (λ c e. sym (v1-even-source k w vy vu vv row c by ∙ from (row / 2) (c / 2)))

@@ -5,7 +5,7 @@
 // for V1 and V2 by one record (specs/Fed.antt). The functions below are the numbers that the code above takes from the maps.
 ghost use mathlib.Core.Path.{_≡_};
 ghost use Prim.Native.Nat.{_+_, _*_, _/_, _%_, _<_};
-ghost use Rattle.layout.specs.Maps.{shift, upperOf, v2WidthOf};
+ghost use Rattle.layout.specs.Maps.{upperOf, v2WidthOf};
 ghost use Rattle.layout.specs.Exists.{v2OddsBelowOf, v2EvensBelowOf};
 
 // Which chroma plane of the picture.
@@ -18,16 +18,6 @@ pub enum Chroma {
 pub enum Layout {
     V1,
     V2,
-}
-
-// Where the half of a chroma plane starts in what U and V share, n being the length of a half: U has the first, V the second.
-pub fn second(which: Chroma, n: usize) -> usize
-    ensures { λ r. ⌜ r ≡ shift which n ⌝ }
-{
-    match which {
-        Chroma::CU => 0,
-        Chroma::CV => n,
-    }
 }
 
 // V1: the luma row of the auxiliary view that has U of an odd row of the picture; V is 8 rows below (apply_auxiliary_v1, split).

@@ -1,4 +1,4 @@
--- `apply_auxiliary::apply_auxiliary_view` meets its contract: a refusal returns before any write, U and V have one call each, and Y has none.
+-- `apply_auxiliary::apply_auxiliary_view` meets its contract: a refusal returns before any write, U and V have one call, and Y has none.
 -- Assumes nothing.
 use borrow.Author.Needs.{needs}
 use mathlib.Core.Path.{_≡_, sym, _∙_}
@@ -33,10 +33,7 @@ returns c =
     auxiliary-refused (a .layout) (a .size) (a .w) (now (a .rects)) (now (a .vy)) (now (a .vu)) (now (a .vv)) (now (a .y)) (now (a .u)) (now (a .v)) (c .before .apply-number .ensures) (c .if1 .taken)
 
 auxiliary-rects-requires : tie.Need-auxiliary-rects-requires
-auxiliary-rects-requires c κs = let f = has (c .before) in (f .planes .u-fits, f .view)
-
-auxiliary-rects-requires-2 : tie.Need-auxiliary-rects-requires-2
-auxiliary-rects-requires-2 c κs = let f = has (c .before .before .before .before .before) in (f .planes .v-fits, f .view)
+auxiliary-rects-requires c κs = let f = has (c .before .before) in (f .planes .u-fits, (f .planes .v-fits, f .view))
 
 same-length : tie.Need-same-length
 same-length c = search needs
@@ -46,13 +43,12 @@ same-length-2 c = search needs
 
 returns-2 : tie.Need-returns-2
 returns-2 c =
-    let v = c .before .before in
-    let u = v .before .before .before .before in
-    let e = u .before .before in
+    let call = c .before .before .before .before in
+    let e = call .before .before .before in
     let a = entry (e .before) .args in
-    auxiliary-done (a .layout) (a .size) (a .w) (now (a .rects)) (now (a .vy)) (now (a .vu)) (now (a .vv)) (now (a .y)) (now (a .u)) (now (a .v)) (zero e) (u .auxiliary-rects .ensures) (v .auxiliary-rects2 .ensures)
+    auxiliary-done (a .layout) (a .size) (a .w) (now (a .rects)) (now (a .vy)) (now (a .vu)) (now (a .vv)) (now (a .y)) (now (a .u)) (now (a .v)) (zero e) (call .auxiliary-rects .ensures .0) (call .auxiliary-rects .ensures .1)
 
 pub apply-auxiliary-view-spec : {M : Type 1} → statement M
 apply-auxiliary-view-spec =
     tie.close
-    (tie.spec apply-number-requires returns auxiliary-rects-requires auxiliary-rects-requires-2 same-length same-length-2 returns-2)
+    (tie.spec apply-number-requires returns auxiliary-rects-requires same-length same-length-2 returns-2)

@@ -7,16 +7,18 @@ use mathlib.Core.List.{List}
 use Prim.Native.Nat.{ℕ}
 use Rattle.lent.specs.Paint.{painted}
 use Rattle.picture.specs.Sizes.{strideOf, rowsOf}
+use Rattle.layout.specs.declared.Chroma.{Chroma}
+use Rattle.layout.specs.declared.Chroma.the-variants.{CU, CV}
 use Rattle.layout.specs.declared.Layout.{Layout}
 use Rattle.apply_auxiliary_rows.specs.Rows.{auxiliarySource, auxiliaryRow}
 use Rattle.apply_auxiliary.proofs.auxiliary_row.Statement.{statement}
 use Rattle.apply_auxiliary.proofs.auxiliary_row.Tie as tie
 
--- the plane that the contract asks for, by a layout
-abbrev asked : tie.Start → Layout → List ℕ
-asked s t =
+-- the plane k that the contract asks for, by a layout
+abbrev asked : tie.Start → Chroma → List ℕ → Layout → List ℕ
+asked s k xs t =
     let a = s .args in
-    painted (strideOf (a .size)) (rowsOf (a .size)) (auxiliaryRow t (a .w) (a .row) (a .left) (a .right)) (auxiliarySource t (a .which) (a .w) (now (a .vy)) (now (a .vu)) (now (a .vv))) (now (a .dst))
+    painted (strideOf (a .size)) (rowsOf (a .size)) (auxiliaryRow t (a .w) (a .row) (a .left) (a .right)) (auxiliarySource t k (a .w) (now (a .vy)) (now (a .vu)) (now (a .vv))) xs
 
 enum-told : tie.Need-enum-told
 enum-told c = search needs
@@ -33,19 +35,34 @@ v2-row-requires c κs = search needs
 same-length : tie.Need-same-length
 same-length c = search needs
 
-returns : tie.Need-returns
-returns c =
-    let told = c .before .before .before .before in
-    c .before .before .v1-row .ensures ∙ ap (asked (told .before .before .before .before .before .before)) (sym (told .enum-told .given .1))
-
 same-length-2 : tie.Need-same-length-2
 same-length-2 c = search needs
 
+returns : tie.Need-returns
+returns c =
+    let call = c .before .before .before .before in
+    let told = call .before .before .before in
+    let s = told .before .before .before .before .before .before .before in
+    let e = call .v1-row .ensures in
+    let is = sym (told .enum-told .given .1) in
+    (e .0 ∙ ap (asked s CU (now (s .args .u))) is, e .1 ∙ ap (asked s CV (now (s .args .v))) is)
+
+same-length-3 : tie.Need-same-length-3
+same-length-3 c = search needs
+
+same-length-4 : tie.Need-same-length-4
+same-length-4 c = search needs
+
 returns-2 : tie.Need-returns-2
 returns-2 c =
-    let told = c .before .before .before .before in
-    c .before .before .v2-row .ensures ∙ ap (asked (told .before .before .before .before .before .before)) (sym (told .enum-told2 .given .1))
+    let call = c .before .before .before .before in
+    let told = call .before .before .before in
+    let s = told .before .before .before .before .before .before .before in
+    let e = call .v2-row .ensures in
+    let is = sym (told .enum-told2 .given .1) in
+    (e .0 ∙ ap (asked s CU (now (s .args .u))) is, e .1 ∙ ap (asked s CV (now (s .args .v))) is)
 
 pub auxiliary-row-spec : {M : Type 1} → statement M
 auxiliary-row-spec =
-    tie.close (tie.spec enum-told v1-row-requires enum-told-2 v2-row-requires same-length returns same-length-2 returns-2)
+    tie.close
+    (tie.spec enum-told v1-row-requires enum-told-2 v2-row-requires same-length same-length-2 returns same-length-3 same-length-4 returns-2)
