@@ -5,50 +5,78 @@
 // that a caller leans on are in proofs/Laws.antt.
 ghost use mathlib.Core.Path.{_≡_};
 ghost use mathlib.Core.List.{[], _∷_};
-ghost use Prim.Native.Nat.{_+_, _*_, _≤_};
+ghost use Prim.Native.Nat.{_*_, _≤_};
 ghost use lib.ListN.{length};
 ghost use Rattle.lent.specs.Paint.{painted};
 ghost use Rattle.picture.specs.Sizes.{strideOf, rowsOf};
 ghost use Rattle.view.specs.View.{ViewFits};
 ghost use Rattle.layout.specs.declared.Chroma.the-variants.{CU, CV};
+ghost use Rattle.layout.specs.declared.Layout.the-variants.{V1, V2};
 ghost use Rattle.rects.specs.Rects.{by};
-ghost use Rattle.apply_auxiliary_rows.specs.Rows.{auxiliarySource, auxiliaryRow, AreaFits};
+ghost use Rattle.apply_auxiliary_rows.specs.Rows.{auxiliarySource, AreaFits};
 ghost use Rattle.apply_auxiliary.specs.Auxiliary.{auxiliaryIn, auxiliaryRule, auxiliaryAfter, ApplyAuxiliaryViewOutcome};
+use apply_auxiliary_rows::v1::v1_row;
+use apply_auxiliary_rows::v2::v2_row;
 use layout::Layout;
 use picture::Size;
 use rects::Area;
 use rects::Rect;
 use view::View;
 
-// One row of both chroma planes, by either layout.
-fn auxiliary_row(
-    layout: Layout,
+// The rows of the area, one after the other, by V1. Each layout has a loop of its own: in one loop for both, a row of V1 would pay for
+// what the compiler keeps from row to row for V2.
+fn v1_rows(
     u: &mut [u8],
     v: &mut [u8],
     size: Size,
+    area: Area,
     w: View,
     vy: &[u8],
     vu: &[u8],
     vv: &[u8],
-    row: usize,
-    left: usize,
-    right: usize,
 )
-    requires { ⌜ AreaFits size (length (now u)) (row + 1) left right ⌝ }
-    requires { ⌜ AreaFits size (length (now v)) (row + 1) left right ⌝ }
+    requires { ⌜ AreaFits size (length (now u)) (area .bottom) (area .left) (area .right) ⌝ }
+    requires { ⌜ AreaFits size (length (now v)) (area .bottom) (area .left) (area .right) ⌝ }
     requires { ⌜ ViewFits w (length (now vy)) (length (now vu)) (length (now vv)) ⌝ }
-    ensures u { λ _. ⌜ now (u .exit) ≡ painted (strideOf size) (rowsOf size) (auxiliaryRow layout w row left right)
-        (auxiliarySource layout CU w (now (vy .entry)) (now (vu .entry)) (now (vv .entry))) (now (u .entry)) ⌝ }
-    ensures v { λ _. ⌜ now (v .exit) ≡ painted (strideOf size) (rowsOf size) (auxiliaryRow layout w row left right)
-        (auxiliarySource layout CV w (now (vy .entry)) (now (vu .entry)) (now (vv .entry))) (now (v .entry)) ⌝ }
+    ensures u { λ _. ⌜ now (u .exit) ≡ painted (strideOf size) (rowsOf size) (auxiliaryIn V1 w area)
+        (auxiliarySource V1 CU w (now (vy .entry)) (now (vu .entry)) (now (vv .entry))) (now (u .entry)) ⌝ }
+    ensures v { λ _. ⌜ now (v .exit) ≡ painted (strideOf size) (rowsOf size) (auxiliaryIn V1 w area)
+        (auxiliarySource V1 CV w (now (vy .entry)) (now (vu .entry)) (now (vv .entry))) (now (v .entry)) ⌝ }
 {
-    match layout {
-        Layout::V1 => apply_auxiliary_rows::v1::v1_row(u, v, size, w, vy, vu, vv, row, left, right),
-        Layout::V2 => apply_auxiliary_rows::v2::v2_row(u, v, size, w, vy, vu, vv, row, left, right),
+    let mut row = area.top;
+    while row < area.bottom {
+        v1_row(u, v, size, w, vy, vu, vv, row, area.left, area.right);
+        row += 1;
     }
 }
 
-// The rows of the area, one after the other.
+// The rows of the area, one after the other, by V2.
+fn v2_rows(
+    u: &mut [u8],
+    v: &mut [u8],
+    size: Size,
+    area: Area,
+    w: View,
+    vy: &[u8],
+    vu: &[u8],
+    vv: &[u8],
+)
+    requires { ⌜ AreaFits size (length (now u)) (area .bottom) (area .left) (area .right) ⌝ }
+    requires { ⌜ AreaFits size (length (now v)) (area .bottom) (area .left) (area .right) ⌝ }
+    requires { ⌜ ViewFits w (length (now vy)) (length (now vu)) (length (now vv)) ⌝ }
+    ensures u { λ _. ⌜ now (u .exit) ≡ painted (strideOf size) (rowsOf size) (auxiliaryIn V2 w area)
+        (auxiliarySource V2 CU w (now (vy .entry)) (now (vu .entry)) (now (vv .entry))) (now (u .entry)) ⌝ }
+    ensures v { λ _. ⌜ now (v .exit) ≡ painted (strideOf size) (rowsOf size) (auxiliaryIn V2 w area)
+        (auxiliarySource V2 CV w (now (vy .entry)) (now (vu .entry)) (now (vv .entry))) (now (v .entry)) ⌝ }
+{
+    let mut row = area.top;
+    while row < area.bottom {
+        v2_row(u, v, size, w, vy, vu, vv, row, area.left, area.right);
+        row += 1;
+    }
+}
+
+// The rows of the area, by either layout.
 fn auxiliary_rows(
     layout: Layout,
     u: &mut [u8],
@@ -68,22 +96,9 @@ fn auxiliary_rows(
     ensures v { λ _. ⌜ now (v .exit) ≡ painted (strideOf size) (rowsOf size) (auxiliaryIn layout w area)
         (auxiliarySource layout CV w (now (vy .entry)) (now (vu .entry)) (now (vv .entry))) (now (v .entry)) ⌝ }
 {
-    let mut row = area.top;
-    while row < area.bottom {
-        auxiliary_row(
-            layout,
-            u,
-            v,
-            size,
-            w,
-            vy,
-            vu,
-            vv,
-            row,
-            area.left,
-            area.right,
-        );
-        row += 1;
+    match layout {
+        Layout::V1 => v1_rows(u, v, size, area, w, vy, vu, vv),
+        Layout::V2 => v2_rows(u, v, size, area, w, vy, vu, vv),
     }
 }
 

@@ -1,56 +1,69 @@
--- `apply_auxiliary::auxiliary_rows` meets its contract. The invariant: each plane is painted by what the area takes in the rows below `row`.
+-- `apply_auxiliary::auxiliary_rows` meets its contract: each layout has its function.
 -- Assumes nothing.
 use borrow.Author.Needs.{needs}
-use Prim.Native.Nat.{_-_}
-use native.Mathlib.Omega.{arith}
+use mathlib.Core.Path.{sym, ap, _∙_}
+use denote.Ref.{now}
+use mathlib.Core.List.{List}
+use Prim.Native.Nat.{ℕ}
+use Rattle.lent.specs.Paint.{painted}
 use Rattle.picture.specs.Sizes.{strideOf, rowsOf}
+use Rattle.layout.specs.declared.Chroma.{Chroma}
 use Rattle.layout.specs.declared.Chroma.the-variants.{CU, CV}
+use Rattle.layout.specs.declared.Layout.{Layout}
 use Rattle.apply_auxiliary_rows.specs.Rows.{auxiliarySource}
-use Rattle.apply_auxiliary.proofs.Taken.{AreaRows, area-rows-none, area-rows-more, area-rows-all}
+use Rattle.apply_auxiliary.specs.Auxiliary.{auxiliaryIn}
 use Rattle.apply_auxiliary.proofs.auxiliary_rows.Statement.{statement}
 use Rattle.apply_auxiliary.proofs.auxiliary_rows.Tie as tie
 
-abbrev Inv-loop : tie.InvT-loop
-Inv-loop layout u₀ v₀ size area w vy vu vv row₀ u v row =
-    AreaRows layout w area (strideOf size) (rowsOf size) (auxiliarySource layout CU w vy vu vv) u₀ u row
-    × AreaRows layout w area (strideOf size) (rowsOf size) (auxiliarySource layout CV w vy vu vv) v₀ v row
+-- the plane k that the contract asks for, by a layout
+abbrev asked : tie.Start → Chroma → List ℕ → Layout → List ℕ
+asked s k xs t =
+    let a = s .args in
+    painted (strideOf (a .size)) (rowsOf (a .size)) (auxiliaryIn t (a .w) (a .area)) (auxiliarySource t k (a .w) (now (a .vy)) (now (a .vu)) (now (a .vv))) xs
 
-abbrev μ-loop : tie.MeasureT-loop
-μ-loop layout u₀ v₀ size area w vy vu vv row₀ u v row = area .bottom - row
+enum-told : tie.Need-enum-told
+enum-told c = search needs
 
-loop-holds : tie.Need-loop-holds Inv-loop μ-loop
-loop-holds c = (area-rows-none _ _ _ _ _ _ _, area-rows-none _ _ _ _ _ _ _)
+v1-rows-requires : tie.Need-v1-rows-requires
+v1-rows-requires c κs = search needs
 
-auxiliary-row-requires : tie.Need-auxiliary-row-requires Inv-loop μ-loop
-auxiliary-row-requires c κs = search needs
+enum-told-2 : tie.Need-enum-told-2
+enum-told-2 c = search needs
 
-add-row : tie.Need-add-row Inv-loop μ-loop
-add-row c = omega arith
+v2-rows-requires : tie.Need-v2-rows-requires
+v2-rows-requires c κs = search needs
 
-loop-less : tie.Need-loop-less Inv-loop μ-loop
-loop-less c = omega arith
+same-length : tie.Need-same-length
+same-length c = search needs
 
-loop-again : tie.Need-loop-again Inv-loop μ-loop
-loop-again c =
-    let call = c .before .before .before .before in
-    let test = call .before .before .before in
-    let l = test .before .before in (
-      area-rows-more _ _ _ _ _ _ _ (l .loop .row) (l .loop .inv .0) (test .if1 .taken) (call .auxiliary-row .ensures .0),
-      area-rows-more _ _ _ _ _ _ _ (l .loop .row) (l .loop .inv .1) (test .if1 .taken) (call .auxiliary-row .ensures .1),
-    )
+same-length-2 : tie.Need-same-length-2
+same-length-2 c = search needs
 
-same-length : tie.Need-same-length Inv-loop μ-loop
-same-length c = omega arith
-
-same-length-2 : tie.Need-same-length-2 Inv-loop μ-loop
-same-length-2 c = omega arith
-
-returns : tie.Need-returns Inv-loop μ-loop
+returns : tie.Need-returns
 returns c =
-    let l = c .before .before in
-    (area-rows-all _ _ _ _ _ _ _ (l .loop .row) (l .loop .inv .0) (c .if1 .left), area-rows-all _ _ _ _ _ _ _ (l .loop .row) (l .loop .inv .1) (c .if1 .left))
+    let call = c .before .before .before .before in
+    let told = call .before .before .before in
+    let s = told .before .before .before .before .before .before .before in
+    let e = call .v1-rows .ensures in
+    let is = sym (told .enum-told .given .1) in
+    (e .0 ∙ ap (asked s CU (now (s .args .u))) is, e .1 ∙ ap (asked s CV (now (s .args .v))) is)
+
+same-length-3 : tie.Need-same-length-3
+same-length-3 c = search needs
+
+same-length-4 : tie.Need-same-length-4
+same-length-4 c = search needs
+
+returns-2 : tie.Need-returns-2
+returns-2 c =
+    let call = c .before .before .before .before in
+    let told = call .before .before .before in
+    let s = told .before .before .before .before .before .before .before in
+    let e = call .v2-rows .ensures in
+    let is = sym (told .enum-told2 .given .1) in
+    (e .0 ∙ ap (asked s CU (now (s .args .u))) is, e .1 ∙ ap (asked s CV (now (s .args .v))) is)
 
 pub auxiliary-rows-spec : {M : Type 1} → statement M
 auxiliary-rows-spec =
     tie.close
-    (tie.spec Inv-loop μ-loop loop-holds auxiliary-row-requires add-row loop-less loop-again same-length same-length-2 returns)
+    (tie.spec enum-told v1-rows-requires enum-told-2 v2-rows-requires same-length same-length-2 returns same-length-3 same-length-4 returns-2)
