@@ -129,7 +129,7 @@ fn auxiliary_rect(
     auxiliary_rows(layout, u, v, size, area, w, vy, vu, vv);
 }
 
-// What the view gives in any rectangle of the list, to U and V in one walk: a small rectangle's cost is that of finding its rows.
+// What the view gives in any rectangle of the list. U and V go in one walk: of a small rectangle most of the work is to find its rows.
 fn auxiliary_rects(
     layout: Layout,
     u: &mut [u8],
