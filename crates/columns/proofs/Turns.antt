@@ -1,14 +1,14 @@
 -- The laws of every second place, and of what a part of a row reads from its sources. Assumes nothing.
 use Prim.Native.Nat.{ℕ, _+_, _*_, _/_, _%_, _<_, _≤_}
 use native.Mathlib.Omega.{arith}
-use mathlib.Core.Path.{_≡_, refl, sym, ap, _∙_}
+use mathlib.Core.Path.{_≡_, sym, ap, _∙_}
 use mathlib.Core.Bool.{Bool, true, false, cond}
 use mathlib.Core.Logic.{_⊎_, inl, inr, ⊎-elim}
 use mathlib.Core.List.{List}
 use lib.Dec.{ltb, eqb}
 use lib.ListN.{length, getD, set, take, drop}
 use lib.Seq.{getD-take, getD-drop}
-use borrow.Author.Tests.{lt-ltb, le-ltb, eq-eqb, eqb-true}
+use borrow.Author.Tests.{lt-ltb, eq-eqb, eqb-true}
 use Rattle.lent.specs.Paint.{paint, every}
 use Rattle.lent.proofs.Bools.{split, never-true, cond-true, cond-false}
 use Rattle.lent.proofs.Paint.{paint-next, paint-ext, length-paint, getD-paint, paint-is}
@@ -75,30 +75,6 @@ module _ (dst from z : List ℕ) (room : length dst ≤ 2 * length z) (whole : l
       (λ o. woven-odd from _ k o ∙ kept-at k o h ∙ sym (cond-false (even k) _ _ (not-even k o)))
       (λ e. woven-even from _ k e ∙ is (k / 2) (omega arith) ∙ sym (cond-true (even k) _ _ (is-even k e)))
       (parity k))
-
--- a loop that writes each place in turn, from xs at an even one and from ys at an odd one
-module _ (xs ys : List ℕ) where
-  abbrev pub by-turns : ℕ → ℕ
-  by-turns k = cond (odd k) (getD ys k 0) (getD xs k 0)
-
-  pub turns-next : (k v : ℕ) → k < length xs → v ≡ cond (odd k) (getD ys k 0) (getD (paint (λ j. ltb j k) by-turns xs) k 0) → set (paint (λ j. ltb j k) by-turns xs) k v ≡ paint (λ j. ltb j (k + 1)) by-turns xs
-  turns-next k v h e =
-      paint-next by-turns xs k v h
-      (e ∙ ap (λ (x : ℕ). cond (odd k) (getD ys k 0) x) (getD-paint _ by-turns xs k h ∙ cond-false (ltb k k) _ _ (le-ltb k k (omega arith))))
-
-  pub turns-all : paint (λ j. ltb j (length xs)) by-turns xs ≡ paint odd (λ k. getD ys k 0) xs
-  turns-all =
-      paint-is odd _ xs _ (length-paint _ _ xs)
-      (λ k h. getD-paint _ _ xs k h ∙ cond-true (ltb k (length xs)) _ _ (lt-ltb k (length xs) h))
-
--- of a row in which each byte of `from` stands twice, the odd places
-pub odds-twice : (dst from z : List ℕ) → length dst ≤ length z → length dst % 2 ≡ 0
-    → paint odd (λ k. getD (paint (λ j. ltb j (2 * (length dst / 2))) (woven from from) z) k 0) dst ≡ paint odd (λ k. getD from (k / 2) 0) dst
-odds-twice dst from z room whole =
-    paint-ext odd odd _ _ dst (λ k h. refl)
-    (λ k h e. getD-paint _ _ z k (omega arith)
-    ∙ cond-true (ltb k (2 * (length dst / 2))) _ _ (lt-ltb k (2 * (length dst / 2)) (omega arith))
-    ∙ woven-odd from from k (odd-true k e))
 
 -- u and v by turns, read from the lead on
 pub turns-at : (u v z : List ℕ) (m n lead j : ℕ) → 2 * m ≤ length z → lead + j < 2 * m → j < n → getD (take n (drop lead (paint (λ k. ltb k (2 * m)) (woven u v) z))) j 0 ≡ woven u v (lead + j)

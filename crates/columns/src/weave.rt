@@ -1,10 +1,10 @@
-// Every second and every fourth byte of a short row: two rows woven into one, and the parts that the row writers are made of.
+// Every second and every fourth byte of a short row, two rows woven into one, and the parts of a row whose even places are written.
 //
-// Each promises every byte of what it is lent. A part is woven through a local array, which the compiler turns into vector code; a loop
-// that stores or reads every second byte is not. The array is short, since it is cleared for each part.
+// Each promises every byte of what it is lent. Such a part is woven through local arrays, which the compiler turns into vector code; a loop
+// that stores or reads every second byte is not. The arrays are short, since they are cleared for each part.
 ghost use mathlib.Core.Path.{_≡_};
 ghost use mathlib.Core.Bool.{cond};
-ghost use Prim.Native.Nat.{_+_, _*_, _/_, _%_, _<_, _≤_, min};
+ghost use Prim.Native.Nat.{_+_, _*_, _/_, _%_, _<_, _≤_};
 ghost use lib.Dec.{ltb};
 ghost use lib.ListN.{length, getD};
 ghost use Rattle.lent.specs.Paint.{paint, every};
@@ -39,47 +39,6 @@ fn weave(dst: &mut [u8], evens: &[u8], odds: &[u8], n: usize)
         dst[2 * i + 1] = odds[i];
         i += 1;
     }
-}
-
-// The smaller of two bytes.
-fn smaller(a: u8, b: u8) -> u8
-    ensures { λ r. ⌜ r ≡ min a b ⌝ }
-{
-    if a < b { a } else { b }
-}
-
-// Of two bytes the one for place k: `kept` at an even place, `new` at an odd one. With no branch, so that a row of them is vector code.
-fn turned(k: usize, kept: u8, new: u8) -> u8
-    ensures { λ r. ⌜ r ≡ cond (odd k) new kept ⌝ }
-{
-    let most = 255 * (k % 2) as u8;
-    smaller(kept, 255 - most) + smaller(new, most)
-}
-
-// The odd places of dst become those of `new`.
-fn odds_from(dst: &mut [u8], new: &[u8])
-    requires { ⌜ length (now dst) ≤ length (now new) ⌝ }
-    ensures { λ _. ⌜ now (dst .exit) ≡ paint odd (λ k. getD (now (new .entry)) k 0) (now (dst .entry)) ⌝ }
-{
-    let mut k = 0;
-    while k < dst.len() {
-        dst[k] = turned(k, dst[k], new[k]);
-        k += 1;
-    }
-}
-
-// The odd places of dst, at most 128 bytes, become those of `from`: each byte goes twice into an array, of which dst takes the odd
-// places. Taking the even bytes of dst out and weaving them in again is slower, since the compiler reads every second byte one by one.
-pub fn odd_part(dst: &mut [u8], from: &[u8])
-    requires { ⌜ length (now dst) % 2 ≡ 0 ⌝ }
-    requires { ⌜ length (now dst) ≤ 128 ⌝ }
-    requires { ⌜ length (now dst) ≤ 2 * length (now from) ⌝ }
-    ensures { λ _. ⌜ now (dst .exit) ≡ paint odd (λ k. getD (now (from .entry)) (k / 2) 0) (now (dst .entry)) ⌝ }
-{
-    let mut twice = [0u8; 128];
-    let n = dst.len() / 2;
-    weave(&mut twice, from, from, n);
-    odds_from(dst, &twice);
 }
 
 // The even places of dst, at most 252 bytes, become u and v by turns, from u or from v on.
