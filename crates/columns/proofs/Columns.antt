@@ -2,14 +2,14 @@
 use Prim.Native.Nat.{ℕ, _+_, _-_, _*_, _%_, _<_, _≤_, min}
 use native.Mathlib.Omega.{arith}
 use mathlib.Core.Path.{_≡_, refl, sym, ap, _∙_, subst}
-use mathlib.Core.Bool.{Bool, true, cond, _&&_}
+use mathlib.Core.Bool.{Bool, true, cond, _&&_, and-true}
 use mathlib.Core.Logic.{⊎-elim}
 use mathlib.Core.List.{List, _++_}
 use lib.Dec.{ltb}
 use lib.ListN.{length, getD, set, take, drop, length-drop, length-set}
 use lib.Seq.{getD-take, getD-drop, length-take-le, set-getD}
 use borrow.Author.Tests.{lt-ltb, le-ltb, ltb-true}
-use Rattle.lent.specs.Paint.{paint}
+use Rattle.lent.specs.Paint.{paint, every}
 use Rattle.lent.proofs.Bools.{split, same-test, both, both-left, both-right, cond-ext, cond-false}
 use Rattle.lent.proofs.Paint.{length-paint, getD-paint, paint-none, paint-is, paint-ext, paint-set}
 use Rattle.lent.proofs.Parts.{part-length, part-before, part-in, part-after}
@@ -82,6 +82,10 @@ module _ (p : ℕ → Bool) (s : ℕ → ℕ) (xs : List ℕ) where
 -- a turn goes on: less of the n places is left
 pub turn-falls : {n m col r : ℕ} (most : ℕ) → 0 < most → m ≡ n → col < m → r ≡ min (m - col) most → n - (col + r) < n - col
 turn-falls most pos same lt is = omega arith
+
+-- the first n places, each of which was written
+pub below-every : (s : ℕ → ℕ) (xs : List ℕ) {ys : List ℕ} (n : ℕ) → ys ≡ paint (λ k. ltb k n) s xs → Below every s xs ys n
+below-every s xs n is = (ap length is ∙ length-paint _ s xs, is ∙ paint-ext _ _ s s xs (λ k h. sym (and-true (ltb k n))) (λ k h e. refl))
 
 -- a word of two places: the even one is stored as it was, the odd one is painted
 pub odds-next : (s : ℕ → ℕ) (xs : List ℕ) {was ys : List ℕ} {a b : ℕ} (i : ℕ) → Below odd s xs was (2 * i) → 2 * i + 1 < length xs
