@@ -1,18 +1,20 @@
--- Loops over the columns of a row that was lent, each turn through a part of it: what a turn leaves. Assumes nothing.
-use Prim.Native.Nat.{ℕ, _+_, _-_, _<_, _≤_, min}
+-- Loops over the columns of a row that was lent, each turn through a part of it or by a word: what a turn leaves. Assumes nothing.
+use Prim.Native.Nat.{ℕ, _+_, _-_, _*_, _%_, _<_, _≤_, min}
 use native.Mathlib.Omega.{arith}
 use mathlib.Core.Path.{_≡_, refl, sym, ap, _∙_, subst}
-use mathlib.Core.Bool.{Bool, true, cond, _&&_}
+use mathlib.Core.Bool.{Bool, true, cond, _&&_, and-true}
 use mathlib.Core.Logic.{⊎-elim}
 use mathlib.Core.List.{List, _++_}
 use lib.Dec.{ltb}
-use lib.ListN.{length, getD, take, drop, length-drop}
-use lib.Seq.{getD-take, getD-drop, length-take-le}
-use borrow.Author.Tests.{lt-ltb, le-ltb}
-use Rattle.lent.specs.Paint.{paint}
-use Rattle.lent.proofs.Bools.{split, cond-ext, cond-false}
-use Rattle.lent.proofs.Paint.{length-paint, getD-paint, paint-none, paint-is, paint-ext}
+use lib.ListN.{length, getD, set, take, drop, length-drop, length-set}
+use lib.Seq.{getD-take, getD-drop, length-take-le, set-getD}
+use borrow.Author.Tests.{lt-ltb, le-ltb, ltb-true}
+use Rattle.lent.specs.Paint.{paint, every}
+use Rattle.lent.proofs.Bools.{split, same-test, both, both-left, both-right, cond-ext, cond-false}
+use Rattle.lent.proofs.Paint.{length-paint, getD-paint, paint-none, paint-is, paint-ext, paint-set}
 use Rattle.lent.proofs.Parts.{part-length, part-before, part-in, part-after}
+use Rattle.columns.specs.Turns.{odd}
+use Rattle.columns.proofs.Turns.{is-odd, odd-true}
 
 -- ys is xs, of which the places below n that p takes are painted
 abbrev pub Below : (ℕ → Bool) → (ℕ → ℕ) → List ℕ → List ℕ → ℕ → Type 0
@@ -80,3 +82,24 @@ module _ (p : ℕ → Bool) (s : ℕ → ℕ) (xs : List ℕ) where
 -- a turn goes on: less of the n places is left
 pub turn-falls : {n m col r : ℕ} (most : ℕ) → 0 < most → m ≡ n → col < m → r ≡ min (m - col) most → n - (col + r) < n - col
 turn-falls most pos same lt is = omega arith
+
+-- the first n places, each of which was written
+pub below-every : (s : ℕ → ℕ) (xs : List ℕ) {ys : List ℕ} (n : ℕ) → ys ≡ paint (λ k. ltb k n) s xs → Below every s xs ys n
+below-every s xs n is = (ap length is ∙ length-paint _ s xs, is ∙ paint-ext _ _ s s xs (λ k h. sym (and-true (ltb k n))) (λ k h e. refl))
+
+-- a word of two places: the even one is stored as it was, the odd one is painted
+pub odds-next : (s : ℕ → ℕ) (xs : List ℕ) {was ys : List ℕ} {a b : ℕ} (i : ℕ) → Below odd s xs was (2 * i) → 2 * i + 1 < length xs
+    → ys ≡ set (set was (2 * i) a) (2 * i + 1) b → a ≡ getD was (2 * i) 0 → b ≡ s (2 * i + 1)
+    → Below odd s xs ys (2 * (i + 1))
+odds-next s xs {was} {ys} {a} {b} i before room is kept new = (
+  ap length is ∙ simp length-set (before .0),
+  is ∙ rw (kept, set-getD, before .1)
+      (paint-set _ _ s xs (2 * i + 1) b room new (both _ _ (lt-ltb (2 * i + 1) (2 * (i + 1)) (omega arith)) (is-odd (2 * i + 1) (omega arith)))
+      (λ k ne. same-test (ltb k (2 * i) && odd k) (ltb k (2 * (i + 1)) && odd k)
+      (λ p. both _ _ (lt-ltb k (2 * (i + 1)) (omega (arith, ltb-true k (2 * i) (both-left _ _ p)))) (both-right (ltb k (2 * i)) _ p))
+      (λ p. let o = both-right (ltb k (2 * (i + 1))) _ p in
+      both _ _ (lt-ltb k (2 * i) (before-it k ne (ltb-true k (2 * (i + 1)) (both-left _ _ p)) (odd-true k o))) o))),
+)
+  where
+    before-it : (k : ℕ) → (k ≡ 2 * i + 1 → ⊥) → k < 2 * (i + 1) → k % 2 ≡ 1 → k < 2 * i
+    before-it k ne lt o = ⊎-elim (λ l. l) (λ g. absurd (ne (omega arith))) (split k (2 * i))

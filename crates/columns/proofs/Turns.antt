@@ -1,17 +1,18 @@
--- The laws of every second place, and of what a part of a row reads from its sources. Assumes nothing.
+-- The laws of every second place and of fours, and of what a part of a row reads from its sources. Assumes nothing.
 use Prim.Native.Nat.{ℕ, _+_, _*_, _/_, _%_, _<_, _≤_}
 use native.Mathlib.Omega.{arith}
-use mathlib.Core.Path.{_≡_, refl, sym, ap, _∙_}
+use mathlib.Core.Path.{_≡_, sym, ap, _∙_}
 use mathlib.Core.Bool.{Bool, true, false, cond}
 use mathlib.Core.Logic.{_⊎_, inl, inr, ⊎-elim}
 use mathlib.Core.List.{List}
 use lib.Dec.{ltb, eqb}
 use lib.ListN.{length, getD, set, take, drop}
 use lib.Seq.{getD-take, getD-drop}
-use borrow.Author.Tests.{lt-ltb, le-ltb, eq-eqb, eqb-true}
-use Rattle.lent.specs.Paint.{paint, every}
+use borrow.Author.Tests.{lt-ltb, eq-eqb, eqb-true}
+use Rattle.lent.specs.Paint.{paint}
 use Rattle.lent.proofs.Bools.{split, never-true, cond-true, cond-false}
-use Rattle.lent.proofs.Paint.{paint-next, paint-ext, length-paint, getD-paint, paint-is}
+use Rattle.lent.proofs.Paint.{paint-next, length-paint, getD-paint, paint-is}
+use Rattle.lent.proofs.SoFar.{SoFar, so-far-more}
 use Rattle.columns.specs.Turns.{odd, even, woven}
 
 pub is-odd : (k : ℕ) → k % 2 ≡ 1 → odd k ≡ true
@@ -76,30 +77,6 @@ module _ (dst from z : List ℕ) (room : length dst ≤ 2 * length z) (whole : l
       (λ e. woven-even from _ k e ∙ is (k / 2) (omega arith) ∙ sym (cond-true (even k) _ _ (is-even k e)))
       (parity k))
 
--- a loop that writes each place in turn, from xs at an even one and from ys at an odd one
-module _ (xs ys : List ℕ) where
-  abbrev pub by-turns : ℕ → ℕ
-  by-turns k = cond (odd k) (getD ys k 0) (getD xs k 0)
-
-  pub turns-next : (k v : ℕ) → k < length xs → v ≡ cond (odd k) (getD ys k 0) (getD (paint (λ j. ltb j k) by-turns xs) k 0) → set (paint (λ j. ltb j k) by-turns xs) k v ≡ paint (λ j. ltb j (k + 1)) by-turns xs
-  turns-next k v h e =
-      paint-next by-turns xs k v h
-      (e ∙ ap (λ (x : ℕ). cond (odd k) (getD ys k 0) x) (getD-paint _ by-turns xs k h ∙ cond-false (ltb k k) _ _ (le-ltb k k (omega arith))))
-
-  pub turns-all : paint (λ j. ltb j (length xs)) by-turns xs ≡ paint odd (λ k. getD ys k 0) xs
-  turns-all =
-      paint-is odd _ xs _ (length-paint _ _ xs)
-      (λ k h. getD-paint _ _ xs k h ∙ cond-true (ltb k (length xs)) _ _ (lt-ltb k (length xs) h))
-
--- of a row in which each byte of `from` stands twice, the odd places
-pub odds-twice : (dst from z : List ℕ) → length dst ≤ length z → length dst % 2 ≡ 0
-    → paint odd (λ k. getD (paint (λ j. ltb j (2 * (length dst / 2))) (woven from from) z) k 0) dst ≡ paint odd (λ k. getD from (k / 2) 0) dst
-odds-twice dst from z room whole =
-    paint-ext odd odd _ _ dst (λ k h. refl)
-    (λ k h e. getD-paint _ _ z k (omega arith)
-    ∙ cond-true (ltb k (2 * (length dst / 2))) _ _ (lt-ltb k (2 * (length dst / 2)) (omega arith))
-    ∙ woven-odd from from k (odd-true k e))
-
 -- u and v by turns, read from the lead on
 pub turns-at : (u v z : List ℕ) (m n lead j : ℕ) → 2 * m ≤ length z → lead + j < 2 * m → j < n → getD (take n (drop lead (paint (λ k. ltb k (2 * m)) (woven u v) z))) j 0 ≡ woven u v (lead + j)
 turns-at u v z m n lead j room h hn =
@@ -108,12 +85,30 @@ turns-at u v z m n lead j room h hn =
     ∙ getD-paint _ _ z (lead + j) (omega arith)
     ∙ cond-true (ltb (lead + j) (2 * m)) _ _ (lt-ltb (lead + j) (2 * m) h)
 
--- a row whose every place is new
-pub full-new : (dst evens odds : List ℕ) (new : ℕ → ℕ) → length dst % 2 ≡ 0 → ((j : ℕ) → j < length dst / 2 → getD evens j 0 ≡ new j)
-    → paint (λ k. ltb k (2 * (length dst / 2))) (woven evens odds) dst ≡ paint every (λ k. cond (odd k) (getD odds (k / 2) 0) (new (k / 2))) dst
-full-new dst evens odds new whole is =
-    paint-ext _ every _ _ dst (λ k h. lt-ltb k (2 * (length dst / 2)) (omega arith))
-    (λ k h e. ⊎-elim
-    (λ o. woven-odd evens odds k o ∙ sym (ap (λ (b : Bool). cond b (getD odds (k / 2) 0) (new (k / 2))) (is-odd k o)))
-    (λ z. woven-even evens odds k z ∙ is (k / 2) (omega arith) ∙ sym (ap (λ (b : Bool). cond b (getD odds (k / 2) 0) (new (k / 2))) (not-odd k z)))
-    (parity k))
+-- a row by fours: u, odd, v, odd
+abbrev pub by-fours : List ℕ → List ℕ → List ℕ → ℕ → ℕ
+by-fours odds u v k = cond (odd k) (getD odds (k / 2) 0) (woven u v (k / 2))
+
+module _ (odds u v : List ℕ) where
+  at-odd : (k j : ℕ) → k % 2 ≡ 1 → k / 2 ≡ j → getD odds j 0 ≡ by-fours odds u v k
+  at-odd k j o e = ap (λ (m : ℕ). getD odds m 0) (sym e) ∙ sym (cond-true (odd k) _ _ (is-odd k o))
+
+  at-even : (k j : ℕ) → k % 2 ≡ 0 → k / 2 ≡ j → woven u v j ≡ by-fours odds u v k
+  at-even k j z e = ap (woven u v) (sym e) ∙ sym (cond-false (odd k) _ _ (not-odd k z))
+
+  -- a word of four places more
+  pub fours-next : (xs : List ℕ) {was ys : List ℕ} {a b c d : ℕ} (i : ℕ) → SoFar (by-fours odds u v) xs was (4 * i) → 4 * i + 3 < length xs
+      → ys ≡ set (set (set (set was (4 * i) a) (4 * i + 1) b) (4 * i + 2) c) (4 * i + 3) d
+      → a ≡ getD u i 0 → b ≡ getD odds (2 * i) 0 → c ≡ getD v i 0 → d ≡ getD odds (2 * i + 1) 0
+      → SoFar (by-fours odds u v) xs ys (4 * (i + 1))
+  fours-next xs {was} {ys} {a} {b} {c} {d} i before room is e₀ e₁ e₂ e₃ =
+      let half : i ≡ 2 * i / 2 = omega arith in
+      let half′ : i ≡ (2 * i + 1) / 2 = omega arith in
+      let two : 4 * i + 1 + 1 ≡ 4 * i + 2 = omega arith in
+      let three : 4 * i + 2 + 1 ≡ 4 * i + 3 = omega arith in
+      let four : 4 * i + 3 + 1 ≡ 4 * (i + 1) = omega arith in
+      let f₁ = so-far-more _ xs (4 * i) before (omega arith) (e₀ ∙ ap (λ (m : ℕ). getD u m 0) half ∙ sym (woven-even u v (2 * i) (omega arith)) ∙ at-even (4 * i) (2 * i) (omega arith) (omega arith)) in
+      let f₂ = so-far-more _ xs (4 * i + 1) f₁ (omega arith) (e₁ ∙ at-odd (4 * i + 1) (2 * i) (omega arith) (omega arith)) in
+      let f₃ = so-far-more _ xs (4 * i + 2) (rw two at f₂) (omega arith) (e₂ ∙ ap (λ (m : ℕ). getD v m 0) half′ ∙ sym (woven-odd u v (2 * i + 1) (omega arith)) ∙ at-even (4 * i + 2) (2 * i + 1) (omega arith) (omega arith)) in
+      let f₄ = so-far-more _ xs (4 * i + 3) (rw three at f₃) (omega arith) (e₃ ∙ at-odd (4 * i + 3) (2 * i + 1) (omega arith) (omega arith)) in
+      (ap length is ∙ f₄ .0, is ∙ (rw four at (f₄ .1)))

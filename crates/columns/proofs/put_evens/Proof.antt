@@ -84,7 +84,7 @@ loop-again c =
       λ lt. omega (arith, fours),
       below-more even _ (a .dst .now) col end (omega arith) inside (l .loop .inv .2) (call .even-part .ensures)
           (λ j h. even-shift col j (omega (arith, fours)))
-          (λ j h e. turns-from (a .u .now) (a .v .now) col (length (a .u .now) - col / 4) (length (a .v .now) - col / 4) (a .lead) j fours (omega arith) (omega arith)),
+          (λ j h e. turns-from (a .u .now) (a .v .now) (col / 4) (length (a .u .now) - col / 4) (length (a .v .now) - col / 4) (a .lead + j / 2) (a .lead + (col + j) / 2) (omega arith) (omega arith) (omega (arith, fours))),
     )
 
 same-length : tie.Need-same-length Inv-loop μ-loop

@@ -1,136 +1,134 @@
--- `columns::put_full` meets its contract. The invariant: the places below col are painted; a turn that is not the last one is by fours, so
--- that each begins with the same of u and v. `below-more` is one turn.
+-- `columns::put_full` meets its contract: a first pair, where the row begins with v, is one turn of `below-more`, and what is left another.
 -- Assumes nothing.
-use borrow.Author.Needs.{needs}
-use Prim.Native.Nat.{ℕ, _+_, _-_, _/_, _%_, _<_, _≤_}
+use Prim.Native.Nat.{ℕ, _+_, _-_, _*_, _/_, min}
 use native.Mathlib.Omega.{arith}
-use mathlib.Core.Path.{_≡_, refl, sym}
+use mathlib.Core.Path.{_≡_, refl}
 use mathlib.Core.Bool.{cond}
-use lib.ListN.{length, getD}
-use Rattle.lent.specs.Paint.{every}
+use mathlib.Core.List.{List, _++_}
+use lib.ListN.{length, getD, take, drop}
+use Rattle.lent.specs.Paint.{paint, every}
+use Rattle.columns.specs.Fits.{OddsFit, EvensFit}
 use Rattle.columns.specs.Turns.{odd, woven}
-use Rattle.columns.proofs.Sources.{odd-shift, odd-from, turns-from}
-use Rattle.columns.proofs.Columns.{Below, below-none, below-all, below-more, turn-falls}
+use Rattle.columns.proofs.Turns.{by-fours}
+use Rattle.columns.proofs.Sources.{first-pair, rest-by-fours}
+use Rattle.columns.proofs.Columns.{Below, below-none, below-all, below-more}
 use Rattle.columns.proofs.put_full.Statement.{statement}
 use Rattle.columns.proofs.put_full.Tie as tie
 
-abbrev Inv-loop : tie.InvT-loop
-Inv-loop dst₀ from u v lead col₀ dst col =
-    (col ≤ length dst₀) × (col < length dst₀ → col % 4 ≡ 0) × Below every (λ k. cond (odd k) (getD from (k / 2) 0) (woven u v (lead + k / 2))) dst₀ dst col
+-- the two turns, over lists alone, so that `omega` has little to read
+module _ (from u v xs : List ℕ) (lead col : ℕ) (odds : OddsFit (length xs) (length from)) (evens : EvensFit (length xs) (length u) (length v) lead) (first : col ≡ min (2 * lead) (length xs)) where
+  abbrev row : ℕ → ℕ
+  row k = cond (odd k) (getD from (k / 2) 0) (woven u v (lead + k / 2))
 
-abbrev μ-loop : tie.MeasureT-loop
-μ-loop dst₀ from u v lead col₀ dst col = length dst₀ - col
+  begun : {ys : List ℕ} → ys ≡ paint every (woven v from) (take (col - 0) (drop 0 xs)) → Below every row xs (take 0 xs ++ (ys ++ drop (col - 0) (drop 0 xs))) col
+  begun is =
+      below-more every row xs 0 col (omega arith) (omega arith) (below-none every row xs) is (λ j h. refl)
+      (λ j h e. first-pair from u v lead col j (omega arith) (omega arith) h)
 
-loop-holds : tie.Need-loop-holds Inv-loop μ-loop
-loop-holds c = (omega arith, λ lt. omega arith, below-none _ _ _)
+  ended : {was ys : List ℕ} → Below every row xs was col
+      → ys ≡ paint every (by-fours (take (length from - col / 2) (drop (col / 2) from)) (take (length u - lead) (drop lead u)) (take (length v - lead) (drop lead v))) (take (length xs - col) (drop col was))
+      → take col was ++ (ys ++ drop (length xs - col) (drop col was)) ≡ paint every row xs
+  ended before is =
+      below-all every row xs (length xs)
+      (below-more every row xs col (length xs) (omega arith) (omega arith) before is (λ j h. refl)
+      (λ j h e. rest-by-fours from u v lead col (length from - col / 2) (length u - lead) (length v - lead) j (omega arith) (omega arith) (omega arith) (omega arith)))
+      (omega arith)
 
-sub-least : tie.Need-sub-least Inv-loop μ-loop
-sub-least c = omega arith
+mul-least : tie.Need-mul-least
+mul-least c = omega arith
 
-least-requires : tie.Need-least-requires Inv-loop μ-loop
-least-requires c κs = search needs
+least-requires : tie.Need-least-requires
+least-requires c κs = omega arith
 
-add-end : tie.Need-add-end Inv-loop μ-loop
-add-end c = omega arith
+sub-pair : tie.Need-sub-pair
+sub-pair c = omega arith
 
-sub-full-part : tie.Need-sub-full-part Inv-loop μ-loop
-sub-full-part c = omega arith
+part-pair-start : tie.Need-part-pair-start
+part-pair-start c = omega arith
 
-part-full-part-start : tie.Need-part-full-part-start Inv-loop μ-loop
-part-full-part-start c = omega arith
+part-pair-end : tie.Need-part-pair-end
+part-pair-end c = omega arith
 
-part-full-part-end : tie.Need-part-full-part-end Inv-loop μ-loop
-part-full-part-end c = omega arith
+pair-requires : tie.Need-pair-requires
+pair-requires c κs = omega arith
 
-sub-full-part-2 : tie.Need-sub-full-part-2 Inv-loop μ-loop
-sub-full-part-2 c = omega arith
+sub-from-u : tie.Need-sub-from-u
+sub-from-u c = omega arith
 
-part-full-part-start-2 : tie.Need-part-full-part-start-2 Inv-loop μ-loop
-part-full-part-start-2 c = omega arith
+part-from-u-start : tie.Need-part-from-u-start
+part-from-u-start c = omega arith
 
-part-full-part-end-2 : tie.Need-part-full-part-end-2 Inv-loop μ-loop
-part-full-part-end-2 c = omega arith
+part-from-u-end : tie.Need-part-from-u-end
+part-from-u-end c = omega arith
 
-sub-full-part-3 : tie.Need-sub-full-part-3 Inv-loop μ-loop
-sub-full-part-3 c = omega arith
+sub-from-u-2 : tie.Need-sub-from-u-2
+sub-from-u-2 c = omega arith
 
-part-full-part-start-3 : tie.Need-part-full-part-start-3 Inv-loop μ-loop
-part-full-part-start-3 c = omega arith
+part-from-u-start-2 : tie.Need-part-from-u-start-2
+part-from-u-start-2 c = omega arith
 
-part-full-part-end-3 : tie.Need-part-full-part-end-3 Inv-loop μ-loop
-part-full-part-end-3 c = omega arith
+part-from-u-end-2 : tie.Need-part-from-u-end-2
+part-from-u-end-2 c = omega arith
 
-sub-full-part-4 : tie.Need-sub-full-part-4 Inv-loop μ-loop
-sub-full-part-4 c = omega arith
+sub-from-u-3 : tie.Need-sub-from-u-3
+sub-from-u-3 c = omega arith
 
-part-full-part-start-4 : tie.Need-part-full-part-start-4 Inv-loop μ-loop
-part-full-part-start-4 c = omega arith
+part-from-u-start-3 : tie.Need-part-from-u-start-3
+part-from-u-start-3 c = omega arith
 
-part-full-part-end-4 : tie.Need-part-full-part-end-4 Inv-loop μ-loop
-part-full-part-end-4 c = omega arith
+part-from-u-end-3 : tie.Need-part-from-u-end-3
+part-from-u-end-3 c = omega arith
 
-full-part-requires : tie.Need-full-part-requires Inv-loop μ-loop
-full-part-requires c κs =
-    let l = c .before .before .before .before .before .before in
-    let fours = l .loop .inv .1 (omega arith) in
-    search needs
+sub-from-u-4 : tie.Need-sub-from-u-4
+sub-from-u-4 c = omega arith
 
-loop-less : tie.Need-loop-less Inv-loop μ-loop
-loop-less c =
-    let least = c .before .before .before .before .before .before .before in
-    let l = least .before .before in
-    turn-falls 252 (omega arith) (l .loop .inv .2 .0) (least .before .loop-test .taken) (least .least .ensures)
+part-from-u-start-4 : tie.Need-part-from-u-start-4
+part-from-u-start-4 c = omega arith
 
-loop-again : tie.Need-loop-again Inv-loop μ-loop
-loop-again c =
-    let call = c .before .before in
-    let least = call .before .before .before .before .before in
-    let l = least .before .before in
-    let a = l .before .before .before .before .before .args in
-    let col : ℕ = l .loop .col in
-    let end : ℕ = col + least .least .result in
-    let fours = l .loop .inv .1 (omega arith) in
-    let inside : end ≤ length (a .dst .now) = omega arith in (
-      inside,
-      λ lt. omega (arith, fours),
-      below-more every _ (a .dst .now) col end (omega arith) inside (l .loop .inv .2) (call .full-part .ensures)
-          (λ j h. refl)
-          (λ j h e i. cond (sym (odd-shift col j (omega (arith, fours))) i) (odd-from (a .from .now) col (length (a .from .now) - col / 2) j (omega (arith, fours)) (omega arith) i)
-          (turns-from (a .u .now) (a .v .now) col (length (a .u .now) - col / 4) (length (a .v .now) - col / 4) (a .lead) j fours (omega arith) (omega arith) i)),
-    )
+part-from-u-end-4 : tie.Need-part-from-u-end-4
+part-from-u-end-4 c = omega arith
 
-same-length : tie.Need-same-length Inv-loop μ-loop
+from-u-requires : tie.Need-from-u-requires
+from-u-requires c κs = omega arith
+
+same-length : tie.Need-same-length
 same-length c = omega arith
 
-returns : tie.Need-returns Inv-loop μ-loop
+returns : tie.Need-returns
 returns c =
-    let l = c .before in
-    below-all every _ _ (l .loop .col) (l .loop .inv .2) (omega arith)
+    let r = c .before .before in
+    let p = r .before .before .before .before .before .before .before in
+    let m = p .before .before in
+    let s = m .before .before .before .before .before in
+    let a = s .args in
+    let odds = s .pre .0 in
+    let evens = s .pre .1 in
+    ended (a .from .now) (a .u .now) (a .v .now) (a .dst .now) (a .lead) (m .least .result) odds evens (m .least .ensures)
+    (begun (a .from .now) (a .u .now) (a .v .now) (a .dst .now) (a .lead) (m .least .result) odds evens (m .least .ensures) (p .pair .ensures))
+    (r .from-u .ensures)
 
 pub put-full-spec : {M : Type 1} → statement M
 put-full-spec =
     tie.close
     (tie.spec
-    Inv-loop
-    μ-loop
-    loop-holds
-    sub-least
+    mul-least
     least-requires
-    add-end
-    sub-full-part
-    part-full-part-start
-    part-full-part-end
-    sub-full-part-2
-    part-full-part-start-2
-    part-full-part-end-2
-    sub-full-part-3
-    part-full-part-start-3
-    part-full-part-end-3
-    sub-full-part-4
-    part-full-part-start-4
-    part-full-part-end-4
-    full-part-requires
-    loop-less
-    loop-again
+    sub-pair
+    part-pair-start
+    part-pair-end
+    pair-requires
+    sub-from-u
+    part-from-u-start
+    part-from-u-end
+    sub-from-u-2
+    part-from-u-start-2
+    part-from-u-end-2
+    sub-from-u-3
+    part-from-u-start-3
+    part-from-u-end-3
+    sub-from-u-4
+    part-from-u-start-4
+    part-from-u-end-4
+    from-u-requires
     same-length
     returns)
