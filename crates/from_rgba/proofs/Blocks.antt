@@ -1,25 +1,27 @@
--- The average of each block: of a pair of rows one block after the other, of a plane one pair after the other, and of a plane whose
+-- The average of each block: of a pair of rows one part of the columns after the other, of a plane one pair after the other, and of a plane whose
 -- samples are known.
 -- Assumes nothing.
-use Prim.Native.Nat.{ℕ, _+_, _*_, _%_, _-_, _<_, _≤_}
+use Prim.Native.Nat.{ℕ, _+_, _*_, _/_, _%_, _-_, _<_, _≤_}
 use native.Mathlib.Nat.{zero-mul, zero-add, add-mul, one-mul, mul-le-mul-right}
 use native.Mathlib.Omega.{arith}
 use mathlib.Core.Path.{_≡_, refl, sym, ap, _∙_}
-use mathlib.Core.Bool.{Bool}
 use mathlib.Core.Logic.{_⊎_, inl, inr, ⊎-elim}
 use mathlib.Core.List.{List, [], _∷_, _++_}
-use lib.Dec.{eqb}
-use lib.ListN.{length, getD, set, take, drop}
+use lib.Dec.{eqb, ltb}
+use lib.ListN.{length, getD, take, drop}
 use lib.Seq.{getD-take, getD-drop}
-use borrow.Author.Tests.{eq-eqb, eqb-true}
-use Rattle.lent.specs.Paint.{painted, whole, rowPart, upTo}
+use borrow.Author.Tests.{lt-ltb, eq-eqb, eqb-true}
+use Rattle.lent.specs.Paint.{paint, painted, whole, within, upTo}
 use Rattle.lent.specs.Samples.{sample}
-use Rattle.lent.proofs.Bools.{split, same-test, never-true, both, both-left, both-right, cond-true, cond-false}
+use Rattle.lent.proofs.Bools.{split, never-true, both, both-left, both-right, cond-true, cond-false}
 use Rattle.lent.proofs.Cells.{cell-in}
-use Rattle.lent.proofs.Taken.{rowPart-facts, rowPart-holds}
-use Rattle.lent.proofs.Painted.{length-painted, painted-at, painted-past, painted-is, painted-none, painted-set, painted-ext, painted-painted}
+use Rattle.lent.proofs.Paint.{getD-paint, paint-ext}
+use Rattle.lent.proofs.SoFar.{SoFar}
+use Rattle.lent.proofs.Taken.{within-facts}
+use Rattle.lent.proofs.Painted.{painted-at, painted-is, painted-ext, painted-painted}
 use Rattle.colour.specs.Colour.{averageOf}
 use Rattle.from_rgba.specs.Averaged.{averaged}
+use Rattle.from_rgba.proofs.ByPart.{so-far-past, so-far-within}
 use Rattle.from_rgba.proofs.ManyRows.{rows-kept, many-more}
 
 -- ---- what `averaged` says at a place
@@ -38,88 +40,101 @@ module _ (p : ℕ → ℕ → ℕ) (r c : ℕ) where
 even-even : (r c : ℕ) → ((r % 2 ≡ 0) × (c % 2 ≡ 0)) ⊎ ((r % 2 ≡ 0) × (c % 2 ≡ 0) → ⊥)
 even-even r c = ⊎-elim (λ lt. ⊎-elim (λ lt′. inl (omega arith, omega arith)) (λ ge. inr (λ e. omega (arith, e .1))) (split (c % 2) 1)) (λ ge. inr (λ e. omega (arith, e .0))) (split (r % 2) 1)
 
--- planes that agree have the same averages, also where one's rows are counted from an even row of the other
+-- planes that agree in the block have the same average, also where one's rows are counted from an even row of the other
 pub averaged-same : (p q : ℕ → ℕ → ℕ) (w h row r c : ℕ) → w % 2 ≡ 0 → h % 2 ≡ 0 → row % 2 ≡ 0 → r < h → c < w
-    → ((a b : ℕ) → a < h → b < w → p a b ≡ q (row + a) b) → averaged p r c ≡ averaged q (row + r) c
+    → ((a b : ℕ) → a < h → b < w → c ≤ b → p a b ≡ q (row + a) b) → averaged p r c ≡ averaged q (row + r) c
 averaged-same p q w h row r c ew eh er hr hc same =
     ⊎-elim
     (λ e. let below : row + (r + 1) ≡ row + r + 1 = omega arith in
     averaged-at p r c (e .0) (e .1)
     ∙ (λ i. averageOf (
-    same r c hr hc i
-    ∷ same r (c + 1) hr (omega (arith, e .1)) i
-    ∷ (same (r + 1) c (omega (arith, e .0)) hc ∙ ap (λ (m : ℕ). q m c) below) i
-    ∷ (same (r + 1) (c + 1) (omega (arith, e .0)) (omega (arith, e .1)) ∙ ap (λ (m : ℕ). q m (c + 1)) below) i
+    same r c hr hc (omega arith) i
+    ∷ same r (c + 1) hr (omega (arith, e .1)) (omega arith) i
+    ∷ (same (r + 1) c (omega (arith, e .0)) hc (omega arith) ∙ ap (λ (m : ℕ). q m c) below) i
+    ∷ (same (r + 1) (c + 1) (omega (arith, e .0)) (omega (arith, e .1)) (omega arith) ∙ ap (λ (m : ℕ). q m (c + 1)) below) i
     ∷ []))
     ∙ sym (averaged-at q (row + r) c (omega (arith, e .0)) (e .1)))
-    (λ never. averaged-else p r c never ∙ same r c hr hc ∙ sym (averaged-else q (row + r) c (λ e. never (omega (arith, e .0), e .1))))
+    (λ never. averaged-else p r c never ∙ same r c hr hc (omega arith) ∙ sym (averaged-else q (row + r) c (λ e. never (omega (arith, e .0), e .1))))
     (even-even r c)
 
--- ---- a pair of rows, one block after the other
+-- ---- a pair of rows: two columns as a word each, a part of the columns, all of them
 
-even : ℕ → Bool
-even c = eqb (c % 2) 0
+module _ (xs : List ℕ) (w : ℕ) where
+  upper : (c : ℕ) → sample xs w 0 c ≡ getD xs c 0
+  unfolding sample
+  upper c = ap (λ (m : ℕ). getD xs (m + c) 0) (zero-mul w) ∙ ap (λ (m : ℕ). getD xs m 0) (zero-add c)
 
--- the first i blocks
-pub firstBlocks : ℕ → ℕ → ℕ → Bool
-firstBlocks i = rowPart even 0 0 (2 * i)
+  lower : (c : ℕ) → sample xs w (0 + 1) c ≡ getD xs (w + c) 0
+  unfolding sample
+  lower c = ap (λ (m : ℕ). getD xs (m + c) 0) (one-mul w)
 
-module _ (w : ℕ) (xs : List ℕ) (fits : 2 * w ≤ length xs) where
-  pub pair-none : xs ≡ painted w 2 (firstBlocks 0) (averaged (sample xs w)) xs
-  unfolding firstBlocks
-  pair-none = painted-none w 2 _ _ xs (λ r c hr hc. never-true _ (λ e. omega (arith, rowPart-facts even 0 0 (2 * 0) r c e)))
+-- the two columns from `at` + k on, of which the words m and n hold the upper and the lower row's bytes
+pub two-averaged : (xs : List ℕ) (at below k m n r : ℕ) → at % 2 ≡ 0 → at ≤ below → k % 2 ≡ 0
+    → (m % 256 ≡ getD xs (at + k) 0) × (m / 256 ≡ getD xs (at + k + 1) 0)
+    → (n % 256 ≡ getD xs (below + k) 0) × (n / 256 ≡ getD xs (below + k + 1) 0)
+    → (r % 256 ≡ averageOf (m % 256 ∷ m / 256 ∷ n % 256 ∷ n / 256 ∷ [])) × (r / 256 ≡ m / 256)
+    → (r % 256 ≡ averaged (sample xs (below - at)) 0 (at + k)) × (r / 256 ≡ averaged (sample xs (below - at)) 0 (at + (k + 1)))
+two-averaged xs at below k m n r even-at ordered even-k up low is =
+    let left : below - at + (at + k) ≡ below + k = omega arith in
+    let right : below - at + (at + k + 1) ≡ below + k + 1 = omega arith in
+    let next : at + k + 1 ≡ at + (k + 1) = omega arith in (
+      is .0
+          ∙ (λ i. averageOf (
+          (up .0 ∙ sym (upper xs (below - at) (at + k))) i
+          ∷ (up .1 ∙ sym (upper xs (below - at) (at + k + 1))) i
+          ∷ (low .0 ∙ sym (lower xs (below - at) (at + k) ∙ ap (λ (j : ℕ). getD xs j 0) left)) i
+          ∷ (low .1 ∙ sym (lower xs (below - at) (at + k + 1) ∙ ap (λ (j : ℕ). getD xs j 0) right)) i
+          ∷ []))
+          ∙ sym (averaged-at (sample xs (below - at)) 0 (at + k) refl (omega arith)),
+      is .1
+          ∙ up .1
+          ∙ ap (λ (j : ℕ). getD xs j 0) next
+          ∙ sym (averaged-else (sample xs (below - at)) 0 (at + (k + 1)) (λ e. omega (arith, e .1)) ∙ upper xs (below - at) (at + (k + 1))),
+    )
 
-  module _ {was : List ℕ} (i : ℕ) (before : was ≡ painted w 2 (firstBlocks i) (averaged (sample xs w)) xs) (room : 2 * i + 2 ≤ w) where
-    kept : (r c : ℕ) → r < 2 → c < w → ((r ≡ 0) × (c < 2 * i) → ⊥) → getD was (r * w + c) 0 ≡ sample xs w r c
-    unfolding firstBlocks sample
-    kept r c hr hc never =
-        ap (λ (l : List ℕ). getD l (r * w + c) 0) before
-        ∙ painted-at w 2 (firstBlocks i) _ xs r c hr hc fits
-        ∙ cond-false _ _ _ (never-true _ (λ e. let f = rowPart-facts even 0 0 (2 * i) r c e in never (f .0, f .2)))
+-- n columns that went through an array
+pub averages-back : (s : ℕ → ℕ) (xs z : List ℕ) {ys is : List ℕ} (at n : ℕ) → n % 2 ≡ 0 → n ≤ length z → ys ≡ paint (λ j. ltb j (2 * (n / 2))) (λ j. s (at + j)) z
+    → is ≡ paint (within at (at + n)) (λ k. getD ys (k - at) 0) xs
+    → is ≡ paint (within at (at + n)) s xs
+averages-back s xs z at n even room now back =
+    back
+    ∙ paint-ext _ _ _ s xs (λ k h. refl)
+    (λ k h t. let f = within-facts at (at + n) k t in
+    let k-is : at + (k - at) ≡ k = omega (arith, f .0) in
+    ap (λ (l : List ℕ). getD l (k - at) 0) now
+    ∙ getD-paint _ _ z (k - at) (omega (arith, f .0, f .1))
+    ∙ cond-true (ltb (k - at) (2 * (n / 2))) _ _ (lt-ltb (k - at) (2 * (n / 2)) (omega (arith, f .0, f .1)))
+    ∙ ap s k-is)
 
-    upper : (c : ℕ) → 2 * i ≤ c → c < w → getD was c 0 ≡ sample xs w 0 c
-    upper c ge hc = ap (λ (k : ℕ). getD was k 0) (sym (zero-add c) ∙ ap (λ (m : ℕ). m + c) (sym (zero-mul w))) ∙ kept 0 c (omega arith) hc (λ e. omega (arith, e .1))
+module _ (w : ℕ) (xs : List ℕ) (fits : 2 * w ≤ length xs) (even-w : w % 2 ≡ 0) where
+  -- what a part reads is as before the call: the upper row's columns from its own on, and the lower row
+  pub columns-more : {was is : List ℕ} (a n d : ℕ) → a + n ≤ w → d ≡ w → SoFar (averaged (sample xs w) 0) xs was a
+      → is ≡ paint (within a (a + n)) (averaged (sample was d) 0) was
+      → SoFar (averaged (sample xs w) 0) xs is (a + n)
+  unfolding sample
+  columns-more {was} a n d room d-is before back =
+      so-far-within (averaged (sample xs w) 0) xs a (a + n) (averaged (sample was d) 0) (omega arith) before back
+      (λ k ge lt. ap (λ (m : ℕ). averaged (sample was m) 0 k) d-is
+      ∙ averaged-same (sample was w) (sample xs w) w 2 0 0 k even-w refl refl (omega arith) (omega arith)
+      (λ r c hr hc ge′. so-far-past _ xs a (r * w + c) before (omega arith) (omega (arith, cell-in w 2 r c hr hc)) ∙ ap (λ (q : ℕ). getD xs (q * w + c) 0) (sym (zero-add r))))
 
-    lower : (k c : ℕ) → k ≡ w + c → c < w → getD was k 0 ≡ sample xs w (0 + 1) c
-    lower k c k-is hc = ap (λ (m : ℕ). getD was m 0) (k-is ∙ ap (λ (m : ℕ). m + c) (sym (one-mul w))) ∙ kept 1 c (omega arith) hc (λ e. omega (arith, e .0))
-
-    -- what the code reads is the block
-    block-read : averageOf (getD was (2 * i) 0 ∷ getD was (2 * i + 1) 0 ∷ getD was (w + 2 * i) 0 ∷ getD was (w + 2 * i + 1) 0 ∷ []) ≡ averaged (sample xs w) 0 (2 * i)
-    block-read =
-        (λ j. averageOf (
-        upper (2 * i) (omega arith) (omega arith) j
-        ∷ upper (2 * i + 1) (omega arith) (omega arith) j
-        ∷ lower (w + 2 * i) (2 * i) refl (omega arith) j
-        ∷ lower (w + 2 * i + 1) (2 * i + 1) (omega arith) (omega arith) j
-        ∷ []))
-        ∙ sym (averaged-at (sample xs w) 0 (2 * i) (omega arith) (omega arith))
-
-    pub pair-more : {v : ℕ} → v ≡ averageOf (getD was (2 * i) 0 ∷ getD was (2 * i + 1) 0 ∷ getD was (w + 2 * i) 0 ∷ getD was (w + 2 * i + 1) 0 ∷ []) → set was (2 * i) v ≡ painted w 2 (firstBlocks (i + 1)) (averaged (sample xs w)) xs
-    unfolding firstBlocks even
-    pair-more {v} e =
-        (λ j. set (before j) (at j) v)
-        ∙ painted-set w 2 (firstBlocks i) (firstBlocks (i + 1)) _ xs 0 (2 * i) v fits (omega arith) (omega arith) (e ∙ block-read)
-        (rowPart-holds even 0 0 (2 * (i + 1)) 0 (2 * i) refl (omega arith) (omega arith) (eq-eqb (2 * i % 2) 0 (omega arith)))
-        (λ q k ne. same-test (firstBlocks i q k) (firstBlocks (i + 1) q k)
-        (λ t. let f = rowPart-facts even 0 0 (2 * i) q k t in rowPart-holds even 0 0 (2 * (i + 1)) q k (f .0) (f .1) (omega (arith, f .2)) (f .3))
-        (λ t. let f = rowPart-facts even 0 0 (2 * (i + 1)) q k t in
-        rowPart-holds even 0 0 (2 * i) q k (f .0) (f .1)
-        (⊎-elim (λ lt. lt) (λ ge. absurd (ne (f .0, omega (arith, f .2, eqb-true (k % 2) 0 (f .3))))) (split k (2 * i)))
-        (f .3)))
-      where
-        at : 2 * i ≡ 0 * w + 2 * i
-        at = sym (zero-add (2 * i)) ∙ ap (λ (m : ℕ). m + 2 * i) (sym (zero-mul w))
-
-  pub pair-all : (i : ℕ) → w ≤ 2 * i → painted w 2 (firstBlocks i) (averaged (sample xs w)) xs ≡ painted w 2 whole (averaged (sample xs w)) xs
-  unfolding firstBlocks even sample
-  pair-all i end =
-      painted-is w 2 whole _ xs _ (length-painted w 2 (firstBlocks i) _ xs)
-      (λ r c hr hc. painted-at w 2 (firstBlocks i) _ xs r c hr hc fits
-      ∙ ⊎-elim
-      (λ e. cond-true _ _ _ (rowPart-holds even 0 0 (2 * i) r c (omega (arith, e .0)) (omega arith) (omega arith) (eq-eqb (c % 2) 0 (e .1))))
-      (λ never. cond-false _ _ _ (never-true _ (λ t. let f = rowPart-facts even 0 0 (2 * i) r c t in never (omega (arith, f .0), eqb-true (c % 2) 0 (f .3)))) ∙ sym (averaged-else (sample xs w) r c never))
-      (even-even r c))
-      (painted-past w 2 (firstBlocks i) _ xs)
+  pub columns-all : {ys : List ℕ} (k : ℕ) → SoFar (averaged (sample xs w) 0) xs ys k → k ≡ w → ys ≡ painted w 2 whole (averaged (sample xs w)) xs
+  unfolding sample
+  columns-all {ys} k done end =
+      painted-is w 2 whole _ xs ys (done .0)
+      (λ r c hr hc. ⊎-elim
+      (λ lt. let r-is : r ≡ 0 = omega arith in
+      let at : r * w + c ≡ c = ap (λ (q : ℕ). q * w + c) r-is ∙ ap (λ (m : ℕ). m + c) (zero-mul w) ∙ zero-add c in
+      ap (λ (m : ℕ). getD ys m 0) at
+      ∙ ap (λ (l : List ℕ). getD l c 0) (done .1)
+      ∙ getD-paint _ _ xs c (omega arith)
+      ∙ cond-true (ltb c k) _ _ (lt-ltb c k (omega arith))
+      ∙ ap (λ (q : ℕ). averaged (sample xs w) q c) (sym r-is))
+      (λ ge. let r-is : r ≡ 1 = omega arith in
+      let start : r * w ≡ w = ap (λ (q : ℕ). q * w) r-is ∙ one-mul w in
+      so-far-past _ xs k (r * w + c) done (omega arith) (omega arith) ∙ sym (averaged-else (sample xs w) r c (λ e. omega (arith, e .0))))
+      (split r 1))
+      (λ m ge lt. so-far-past _ xs k m done (omega arith) lt)
 
 -- ---- a plane, one pair of rows after the other
 
@@ -136,7 +151,7 @@ module _ (w h : ℕ) (xs : List ℕ) (fits : h * w ≤ length xs) (even-w : w % 
   unfolding sample
   pairs-more {was} row a e even-row room a-is e-is before now back =
       many-more w h (averaged (sample xs w)) xs fits row 2 a e _ room a-is e-is before now
-      (λ r c hr hc. averaged-same (sample part w) (sample xs w) w 2 row r c even-w refl even-row hr hc lent)
+      (λ r c hr hc. averaged-same (sample part w) (sample xs w) w 2 row r c even-w refl even-row hr hc (λ a b ha hb ge. lent a b ha hb))
       back
     where
       part : List ℕ
@@ -159,5 +174,5 @@ unfolding sample
 averaged-painted w h p xs fits ew eh =
     painted-painted w h whole whole p _ xs
     ∙ painted-ext w h _ _ _ _ xs (λ r c hr hc. refl)
-    (λ r c hr hc t. averaged-same (sample (painted w h whole p xs) w) p w h 0 r c ew eh refl hr hc (λ a b ha hb. painted-at w h whole p xs a b ha hb fits ∙ ap (λ (m : ℕ). p m b) (sym (zero-add a)))
+    (λ r c hr hc t. averaged-same (sample (painted w h whole p xs) w) p w h 0 r c ew eh refl hr hc (λ a b ha hb ge. painted-at w h whole p xs a b ha hb fits ∙ ap (λ (m : ℕ). p m b) (sym (zero-add a)))
     ∙ ap (λ (m : ℕ). averaged p m c) (zero-add r))

@@ -1,6 +1,6 @@
 -- The pixels of the picture, row after row, into one plane: what a row's part of the input says of the whole input, and one row more.
 -- Assumes nothing.
-use Prim.Native.Nat.{ℕ, _+_, _*_, _-_, _<_, _≤_}
+use Prim.Native.Nat.{ℕ, _+_, _*_, _/_, _%_, _-_, _<_, _≤_}
 use native.Mathlib.Nat.{add-zero, zero-add, mul-comm}
 use native.Mathlib.Omega.{arith}
 use mathlib.Core.Path.{_≡_, refl, sym, ap, _∙_}
@@ -9,11 +9,14 @@ use lib.ListN.{length, getD, take, drop, length-drop}
 use lib.Seq.{getD-take, getD-drop, length-take-le}
 use Rattle.lent.specs.Paint.{paint, painted, every, upTo}
 use Rattle.lent.proofs.Cells.{row-in}
+use Rattle.lent.proofs.Paint.{getD-paint, paint-ext}
 use Rattle.lent.proofs.Painted.{length-painted}
 use Rattle.lent.proofs.Rows.{rows-none, rows-all}
+use Rattle.lent.proofs.SoFar.{SoFar, so-far-all}
 use Rattle.colour.specs.Colour.{forwardOf}
 use Rattle.colour.specs.declared.Yuv.{Yuv}
-use Rattle.from_rgba.specs.Rows.{colourAt, inside, lineOf, linePainted, PixelsFit}
+use Rattle.from_rgba.specs.Rows.{colourAt, colourApart, inside, lineOf, linePainted, PixelsFit}
+use Rattle.from_rgba.proofs.ByPart.{so-far-part}
 use Rattle.from_rgba.proofs.PartRows.{part-more}
 use Rattle.from_rgba.proofs.Padding.{inside-row, inside-facts}
 
@@ -28,6 +31,47 @@ part-colour px first at n k at-is h =
   where
     byte : (j m : ℕ) → j < n → at + j ≡ m → getD (take n (drop at px)) j 0 ≡ getD px m 0
     byte j m lt e = getD-take n (drop at px) j 0 lt ∙ getD-drop at px j 0 ∙ ap (λ (q : ℕ). getD px q 0) e
+
+-- n pixels that were taken apart, converted and written, each step through arrays of n bytes
+pub apart-back : (px r g b p xs : List ℕ) (n : ℕ) (pick : Yuv → ℕ) {rs gs bs ps ys : List ℕ} → length r ≡ n → length g ≡ n → length b ≡ n → length p ≡ n → length xs ≡ n
+    → rs ≡ paint every (λ k. getD px (4 * k) 0) r → gs ≡ paint every (λ k. getD px (4 * k + 1) 0) g → bs ≡ paint every (λ k. getD px (4 * k + 2) 0) b
+    → ps ≡ paint every (λ k. pick (colourApart rs gs bs k)) p
+    → ys ≡ paint every (λ k. getD ps k 0) xs
+    → ys ≡ paint every (λ k. pick (colourAt px k)) xs
+unfolding colourAt
+apart-back px r g b p xs n pick hr hg hb hp long red green blue now back =
+    back
+    ∙ paint-ext every every _ _ xs (λ k h. refl)
+    (λ k h t. ap (λ (l : List ℕ). getD l k 0) now
+    ∙ getD-paint every _ p k (omega arith)
+    ∙ (λ i. pick (forwardOf
+    ((ap (λ (l : List ℕ). getD l k 0) red ∙ getD-paint every _ r k (omega arith)) i)
+    ((ap (λ (l : List ℕ). getD l k 0) green ∙ getD-paint every _ g k (omega arith)) i)
+    ((ap (λ (l : List ℕ). getD l k 0) blue ∙ getD-paint every _ b k (omega arith)) i))))
+
+-- one sample of a row of n pixels, of which the first k are converted
+module _ (px xs : List ℕ) (n : ℕ) (pick : Yuv → ℕ) (long : length xs ≡ n) (pixels : length px ≡ 4 * n) where
+  -- the pixels from a to below e were lent, converted and came back
+  pixels-more : {was ys : List ℕ} (a e to : ℕ) → a ≤ e → e ≤ n → 4 * e ≤ to → SoFar (λ j. pick (colourAt px j)) xs was a
+      → ys ≡ paint every (λ j. pick (colourAt (take (to - 4 * a) (drop (4 * a) px)) j)) (take (e - a) (drop a was))
+      → SoFar (λ j. pick (colourAt px j)) xs (take a was ++ (ys ++ drop (e - a) (drop a was))) e
+  pixels-more a e to ordered fits read before now =
+      so-far-part _ xs a e _ ordered (omega arith) before now (λ j h. ap pick (part-colour px a (4 * a) (to - 4 * a) j refl (omega arith)))
+
+  -- 16 of them
+  pub pixels-turn : {was ys : List ℕ} (k : ℕ) → k % 16 ≡ 0 → k < n / 16 * 16 → SoFar (λ j. pick (colourAt px j)) xs was k
+      → ys ≡ paint every (λ j. pick (colourAt (take (4 * (k + 16) - 4 * k) (drop (4 * k) px)) j)) (take (k + 16 - k) (drop k was))
+      → SoFar (λ j. pick (colourAt px j)) xs (take k was ++ (ys ++ drop (k + 16 - k) (drop k was))) (k + 16)
+  pixels-turn k by-16 lt = pixels-more k (k + 16) (4 * (k + 16)) (omega arith) (omega arith) (omega arith)
+
+  -- those that are left
+  pub pixels-rest : {was ys : List ℕ} (k a : ℕ) → a ≡ n / 16 * 16 → k ≤ a → a ≤ k → SoFar (λ j. pick (colourAt px j)) xs was k
+      → ys ≡ paint every (λ j. pick (colourAt (take (length px - 4 * a) (drop (4 * a) px)) j)) (take (length was - a) (drop a was))
+      → take a was ++ (ys ++ drop (length was - a) (drop a was)) ≡ paint every (λ j. pick (colourAt px j)) xs
+  pixels-rest {was} k a a-is le ge before now =
+      let k-is : k ≡ a = omega arith in
+      let all : length was ≡ n = before .0 ∙ long in
+      so-far-all _ xs (length was) (pixels-more a (length was) (length px) (omega arith) (omega arith) (omega arith) (rw k-is at before) now) (omega arith)
 
 -- row `row` of the input is within it
 pub pixels-in : (width height row n : ℕ) → width * height * 4 ≤ n → row < height → 4 * (row * width) + 4 * width ≤ n

@@ -1,8 +1,9 @@
 -- The laws of `from_rgba`.
--- The laws of averages: a pair of rows block by block, a plane pair by pair.
+-- The laws of averages: a pair of rows part by part, a plane pair by pair.
 -- The laws of the padding and of the converted pixels.
 pub mod FromRgbaOutcome
 pub mod ManyRows
+pub mod ByPart
 pub mod Blocks
 pub mod PartRows
 pub mod Padding

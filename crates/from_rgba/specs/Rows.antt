@@ -2,6 +2,7 @@
 -- `height` rows; its planes have both rounded up to 16.
 --
 --   colourAt px k                  Y, U and V of pixel k of the bytes px: four bytes a pixel, red, green, blue and an alpha that is ignored
+--   colourApart r g b k            the same of the pixel whose bytes are at place k of three lists
 --   inputAt px width r c           the same of the input's pixel at row r, column c
 --   inside width height r c        row r, column c is within the width and height; the rest of a plane is padding
 --   paddingFromOf width height r   the column from which row r is padding
@@ -23,6 +24,9 @@ use Rattle.colour.specs.declared.Yuv.{Yuv}
 
 unfoldable pub colourAt : List ℕ → ℕ → Yuv
 colourAt px k = forwardOf (getD px (4 * k) 0) (getD px (4 * k + 1) 0) (getD px (4 * k + 2) 0)
+
+abbrev pub colourApart : List ℕ → List ℕ → List ℕ → ℕ → Yuv
+colourApart r g b k = forwardOf (getD r k 0) (getD g k 0) (getD b k 0)
 
 -- "convert each pixel": they are packed, row after row of `width` pixels
 abbrev pub inputAt : List ℕ → ℕ → ℕ → ℕ → Yuv

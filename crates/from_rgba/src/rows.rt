@@ -4,12 +4,13 @@
 // picture, so it stands below the size record.
 ghost use mathlib.Core.Path.{_≡_};
 ghost use mathlib.Core.Bool.{not, cond};
-ghost use Prim.Native.Nat.{_*_, _≤_};
-ghost use lib.ListN.{length};
+ghost use Prim.Native.Nat.{_+_, _*_, _≤_};
+ghost use lib.ListN.{length, getD};
 ghost use Rattle.lent.specs.Paint.{paint, painted, every, whole};
 ghost use Rattle.lent.specs.Sizes.{roundUp};
 ghost use Rattle.from_rgba.specs.Rows.{
   colourAt,
+  colourApart,
   inputAt,
   inside,
   paddingFromOf,
@@ -47,8 +48,88 @@ fn pad_plane(plane: &mut [u8], width: u16, height: u16, value: u8)
     }
 }
 
-// Y, U and V of a row of pixels, in one pass.
-fn forward_row(pixels: &[u8], y: &mut [u8], u: &mut [u8], v: &mut [u8])
+// The red, green and blue of 16 pixels, each in an array of its own. A pixel is read as one word: a compiler that has no load of every
+// fourth byte reads them one by one. The arrays' lengths are asked for, since a proof knows of an array behind a reference only what it
+// is told.
+fn apart(r: &mut [u8; 16], g: &mut [u8; 16], b: &mut [u8; 16], pixels: &[u8])
+    requires { ⌜ (length (now r) ≡ 16) × (length (now g) ≡ 16) × (length (now b) ≡ 16) ⌝ }
+    requires { ⌜ length (now pixels) ≡ 64 ⌝ }
+    ensures r { λ _. ⌜ now (r .exit) ≡ paint every (λ k. getD (now (pixels .entry)) (4 * k) 0) (now (r .entry)) ⌝ }
+    ensures g { λ _. ⌜ now (g .exit) ≡ paint every (λ k. getD (now (pixels .entry)) (4 * k + 1) 0) (now (g .entry)) ⌝ }
+    ensures b { λ _. ⌜ now (b .exit) ≡ paint every (λ k. getD (now (pixels .entry)) (4 * k + 2) 0) (now (b .entry)) ⌝ }
+{
+    let mut i = 0;
+    while i < 16 {
+        let w = lent::words::four(pixels, 4 * i);
+        r[i] = (w % 256) as u8;
+        g[i] = (w / 256 % 256) as u8;
+        b[i] = (w / 65536 % 256) as u8;
+        i += 1;
+    }
+}
+
+// Y, U and V of 16 colours.
+fn forward_16(
+    y: &mut [u8; 16],
+    u: &mut [u8; 16],
+    v: &mut [u8; 16],
+    r: &[u8; 16],
+    g: &[u8; 16],
+    b: &[u8; 16],
+)
+    requires { ⌜ (length (now y) ≡ 16) × (length (now u) ≡ 16) × (length (now v) ≡ 16) ⌝ }
+    ensures y { λ _. ⌜ now (y .exit) ≡ paint every
+        (λ k. colourApart (now (r .entry)) (now (g .entry)) (now (b .entry)) k .y) (now (y .entry)) ⌝ }
+    ensures u { λ _. ⌜ now (u .exit) ≡ paint every
+        (λ k. colourApart (now (r .entry)) (now (g .entry)) (now (b .entry)) k .u) (now (u .entry)) ⌝ }
+    ensures v { λ _. ⌜ now (v .exit) ≡ paint every
+        (λ k. colourApart (now (r .entry)) (now (g .entry)) (now (b .entry)) k .v) (now (v .entry)) ⌝ }
+{
+    let mut i = 0;
+    while i < 16 {
+        let c = colour::forward(r[i], g[i], b[i]);
+        y[i] = c.y;
+        u[i] = c.u;
+        v[i] = c.v;
+        i += 1;
+    }
+}
+
+// The 16 bytes of a part of a row become those of the array: one store, since their number is known here.
+fn put_16(dst: &mut [u8], from: &[u8; 16])
+    requires { ⌜ length (now dst) ≡ 16 ⌝ }
+    ensures { λ _. ⌜ now (dst .exit) ≡ paint every (λ k. getD (now (from .entry)) k 0) (now (dst .entry)) ⌝ }
+{
+    let mut i = 0;
+    while i < 16 {
+        dst[i] = from[i];
+        i += 1;
+    }
+}
+
+// Y, U and V of 16 pixels, through local arrays, so that nothing that is read can be what was written: each step is vector code.
+fn forward_part(pixels: &[u8], y: &mut [u8], u: &mut [u8], v: &mut [u8])
+    requires { ⌜ PixelsFit (length (now pixels)) (length (now y)) (length (now u)) (length (now v)) ⌝ }
+    requires { ⌜ length (now y) ≡ 16 ⌝ }
+    ensures y { λ _. ⌜ now (y .exit) ≡ paint every (λ k. colourAt (now (pixels .entry)) k .y) (now (y .entry)) ⌝ }
+    ensures u { λ _. ⌜ now (u .exit) ≡ paint every (λ k. colourAt (now (pixels .entry)) k .u) (now (u .entry)) ⌝ }
+    ensures v { λ _. ⌜ now (v .exit) ≡ paint every (λ k. colourAt (now (pixels .entry)) k .v) (now (v .entry)) ⌝ }
+{
+    let mut r = [0u8; 16];
+    let mut g = [0u8; 16];
+    let mut b = [0u8; 16];
+    let mut p = [0u8; 16];
+    let mut q = [0u8; 16];
+    let mut s = [0u8; 16];
+    apart(&mut r, &mut g, &mut b, pixels);
+    forward_16(&mut p, &mut q, &mut s, &r, &g, &b);
+    put_16(y, &p);
+    put_16(u, &q);
+    put_16(v, &s);
+}
+
+// Y, U and V of fewer than 16 pixels, one after the other.
+fn forward_tail(pixels: &[u8], y: &mut [u8], u: &mut [u8], v: &mut [u8])
     requires { ⌜ PixelsFit (length (now pixels)) (length (now y)) (length (now u)) (length (now v)) ⌝ }
     ensures y { λ _. ⌜ now (y .exit) ≡ paint every (λ k. colourAt (now (pixels .entry)) k .y) (now (y .entry)) ⌝ }
     ensures u { λ _. ⌜ now (u .exit) ≡ paint every (λ k. colourAt (now (pixels .entry)) k .u) (now (u .entry)) ⌝ }
@@ -57,15 +138,42 @@ fn forward_row(pixels: &[u8], y: &mut [u8], u: &mut [u8], v: &mut [u8])
     let n = y.len();
     let mut i = 0;
     while i < n {
-        let r = pixels[4 * i];
-        let g = pixels[4 * i + 1];
-        let b = pixels[4 * i + 2];
-        let p = colour::forward(r, g, b);
+        let red = pixels[4 * i];
+        let green = pixels[4 * i + 1];
+        let blue = pixels[4 * i + 2];
+        let p = colour::forward(red, green, blue);
         y[i] = p.y;
         u[i] = p.u;
         v[i] = p.v;
         i += 1;
     }
+}
+
+// Y, U and V of a row of pixels, in one pass: 16 pixels a turn, then the rest.
+fn forward_row(pixels: &[u8], y: &mut [u8], u: &mut [u8], v: &mut [u8])
+    requires { ⌜ PixelsFit (length (now pixels)) (length (now y)) (length (now u)) (length (now v)) ⌝ }
+    ensures y { λ _. ⌜ now (y .exit) ≡ paint every (λ k. colourAt (now (pixels .entry)) k .y) (now (y .entry)) ⌝ }
+    ensures u { λ _. ⌜ now (u .exit) ≡ paint every (λ k. colourAt (now (pixels .entry)) k .u) (now (u .entry)) ⌝ }
+    ensures v { λ _. ⌜ now (v .exit) ≡ paint every (λ k. colourAt (now (pixels .entry)) k .v) (now (v .entry)) ⌝ }
+{
+    let full = y.len() / 16 * 16;
+    let mut k = 0;
+    while k < full {
+        let end = k + 16;
+        forward_part(
+            &pixels[4 * k..4 * end],
+            &mut y[k..end],
+            &mut u[k..end],
+            &mut v[k..end],
+        );
+        k = end;
+    }
+    forward_tail(
+        &pixels[4 * full..],
+        &mut y[full..],
+        &mut u[full..],
+        &mut v[full..],
+    );
 }
 
 // The `n` pixels from byte `at` on go to the samples from `line` on.

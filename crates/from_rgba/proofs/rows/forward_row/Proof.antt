@@ -1,90 +1,177 @@
--- `from_rgba::rows::forward_row` meets its contract. The invariant: in each row the first i samples are the first i pixels' converted.
+-- `from_rgba::rows::forward_row` meets its contract. The invariant: in each row the first k samples, k by sixteens, are the first k pixels' converted.
+-- `pixels-more` is one turn, and the rest.
 -- Assumes nothing.
 use borrow.Author.Needs.{needs}
-use Prim.Native.Nat.{_-_}
+use Prim.Native.Nat.{ℕ, _+_, _*_, _/_, _-_, _%_, _≤_}
 use native.Mathlib.Omega.{arith}
-use mathlib.Core.Path.{ap}
-use Rattle.colour.specs.declared.Yuv.{Yuv}
+use mathlib.Core.Path.{_≡_, refl, _∙_}
+use lib.ListN.{length}
+use borrow.Rule.Slice.PartMut.{same-len-mid}
+use Rattle.lent.proofs.SoFar.{SoFar, so-far-none}
 use Rattle.from_rgba.specs.Rows.{colourAt}
-use Rattle.lent.proofs.SoFar.{SoFar, so-far-none, so-far-more, so-far-all}
+use Rattle.from_rgba.proofs.Converted.{pixels-turn, pixels-rest}
 use Rattle.from_rgba.proofs.rows.forward_row.Statement.{statement}
 use Rattle.from_rgba.proofs.rows.forward_row.Tie as tie
 
 abbrev Inv-loop : tie.InvT-loop
-Inv-loop pixels y₀ u₀ v₀ n i₀ y u v i =
-    SoFar (λ k. colourAt pixels k .y) y₀ y i × SoFar (λ k. colourAt pixels k .u) u₀ u i × SoFar (λ k. colourAt pixels k .v) v₀ v i
+Inv-loop pixels y₀ u₀ v₀ full k₀ y u v k =
+    (k % 16 ≡ 0) × (k ≤ full) × SoFar (λ j. colourAt pixels j .y) y₀ y k × SoFar (λ j. colourAt pixels j .u) u₀ u k × SoFar (λ j. colourAt pixels j .v) v₀ v k
 
 abbrev μ-loop : tie.MeasureT-loop
-μ-loop pixels y₀ u₀ v₀ n i₀ y u v i = n - i
+μ-loop pixels y₀ u₀ v₀ full k₀ y u v k = full - k
+
+mul-full : tie.Need-mul-full Inv-loop μ-loop
+mul-full c = omega arith
 
 loop-holds : tie.Need-loop-holds Inv-loop μ-loop
-loop-holds c = (so-far-none _ _, so-far-none _ _, so-far-none _ _)
+loop-holds c = (omega arith, omega arith, so-far-none _ _, so-far-none _ _, so-far-none _ _)
 
-mul-r : tie.Need-mul-r Inv-loop μ-loop
-mul-r c = omega arith
+add-end : tie.Need-add-end Inv-loop μ-loop
+add-end c = omega arith
 
-shared-slice-read-r : tie.Need-shared-slice-read-r Inv-loop μ-loop
-shared-slice-read-r c = omega arith
+mul-forward-part : tie.Need-mul-forward-part Inv-loop μ-loop
+mul-forward-part c = omega arith
 
-mul-g : tie.Need-mul-g Inv-loop μ-loop
-mul-g c = omega arith
+mul-forward-part-2 : tie.Need-mul-forward-part-2 Inv-loop μ-loop
+mul-forward-part-2 c = omega arith
 
-add-g : tie.Need-add-g Inv-loop μ-loop
-add-g c = omega arith
+sub-forward-part : tie.Need-sub-forward-part Inv-loop μ-loop
+sub-forward-part c = omega arith
 
-shared-slice-read-g : tie.Need-shared-slice-read-g Inv-loop μ-loop
-shared-slice-read-g c = omega arith
+part-forward-part-start : tie.Need-part-forward-part-start Inv-loop μ-loop
+part-forward-part-start c = omega arith
 
-mul-b : tie.Need-mul-b Inv-loop μ-loop
-mul-b c = omega arith
+part-forward-part-end : tie.Need-part-forward-part-end Inv-loop μ-loop
+part-forward-part-end c = omega arith
 
-add-b : tie.Need-add-b Inv-loop μ-loop
-add-b c = omega arith
+sub-forward-part-2 : tie.Need-sub-forward-part-2 Inv-loop μ-loop
+sub-forward-part-2 c = omega arith
 
-shared-slice-read-b : tie.Need-shared-slice-read-b Inv-loop μ-loop
-shared-slice-read-b c = omega arith
+part-forward-part-start-2 : tie.Need-part-forward-part-start-2 Inv-loop μ-loop
+part-forward-part-start-2 c = omega arith
 
-forward-requires : tie.Need-forward-requires Inv-loop μ-loop
-forward-requires c κs = search needs
+part-forward-part-end-2 : tie.Need-part-forward-part-end-2 Inv-loop μ-loop
+part-forward-part-end-2 c = omega arith
 
-slice-write-y : tie.Need-slice-write-y Inv-loop μ-loop
-slice-write-y c = omega arith
+sub-forward-part-3 : tie.Need-sub-forward-part-3 Inv-loop μ-loop
+sub-forward-part-3 c = omega arith
 
-slice-write-u : tie.Need-slice-write-u Inv-loop μ-loop
-slice-write-u c = omega arith
+part-forward-part-start-3 : tie.Need-part-forward-part-start-3 Inv-loop μ-loop
+part-forward-part-start-3 c = omega arith
 
-slice-write-v : tie.Need-slice-write-v Inv-loop μ-loop
-slice-write-v c = omega arith
+part-forward-part-end-3 : tie.Need-part-forward-part-end-3 Inv-loop μ-loop
+part-forward-part-end-3 c = omega arith
 
-add-i : tie.Need-add-i Inv-loop μ-loop
-add-i c = omega arith
+sub-forward-part-4 : tie.Need-sub-forward-part-4 Inv-loop μ-loop
+sub-forward-part-4 c = omega arith
+
+part-forward-part-start-4 : tie.Need-part-forward-part-start-4 Inv-loop μ-loop
+part-forward-part-start-4 c = omega arith
+
+part-forward-part-end-4 : tie.Need-part-forward-part-end-4 Inv-loop μ-loop
+part-forward-part-end-4 c = omega arith
+
+forward-part-requires : tie.Need-forward-part-requires Inv-loop μ-loop
+forward-part-requires c κs = search needs
 
 loop-less : tie.Need-loop-less Inv-loop μ-loop
 loop-less c = omega arith
 
 loop-again : tie.Need-loop-again Inv-loop μ-loop
-unfolding colourAt
 loop-again c =
-    let l = c .before .before .before .before .before in
-    let p = c .forward .ensures in (
-      so-far-more _ _ (l .loop .i) (l .loop .inv .0) (omega arith) (ap (λ (q : Yuv). q .y) p),
-      so-far-more _ _ (l .loop .i) (l .loop .inv .1) (omega arith) (ap (λ (q : Yuv). q .u) p),
-      so-far-more _ _ (l .loop .i) (l .loop .inv .2) (omega arith) (ap (λ (q : Yuv). q .v) p),
+    let call = c .before .before .before .before .before .before in
+    let i = call .before .before .before .before .before in
+    let l = i .before in
+    let s = l .before .before .before .before .before in
+    let a = s .args in
+    let px = a .pixels .now in
+    let e = call .forward-part .ensures in (
+      omega arith,
+      omega arith,
+      pixels-turn px (a .y .now) _ (λ p. p .y) refl (s .pre .pixels) (l .loop .k) (l .loop .inv .0) (i .loop-test .taken) (l .loop .inv .2) (e .0),
+      pixels-turn px (a .u .now) _ (λ p. p .u) (s .pre .same-u) (s .pre .pixels) (l .loop .k) (l .loop .inv .0) (i .loop-test .taken) (l .loop .inv .3) (e .1 .0),
+      pixels-turn px (a .v .now) _ (λ p. p .v) (s .pre .same-v) (s .pre .pixels) (l .loop .k) (l .loop .inv .0) (i .loop-test .taken) (l .loop .inv .4) (e .1 .1),
     )
 
+mul-forward-tail : tie.Need-mul-forward-tail Inv-loop μ-loop
+mul-forward-tail c = omega arith
+
+sub-forward-tail : tie.Need-sub-forward-tail Inv-loop μ-loop
+sub-forward-tail c = omega arith
+
+part-forward-tail-start : tie.Need-part-forward-tail-start Inv-loop μ-loop
+part-forward-tail-start c = omega arith
+
+part-forward-tail-end : tie.Need-part-forward-tail-end Inv-loop μ-loop
+part-forward-tail-end c = omega arith
+
+sub-forward-tail-2 : tie.Need-sub-forward-tail-2 Inv-loop μ-loop
+sub-forward-tail-2 c = omega arith
+
+part-forward-tail-start-2 : tie.Need-part-forward-tail-start-2 Inv-loop μ-loop
+part-forward-tail-start-2 c = omega arith
+
+part-forward-tail-end-2 : tie.Need-part-forward-tail-end-2 Inv-loop μ-loop
+part-forward-tail-end-2 c = omega arith
+
+sub-forward-tail-3 : tie.Need-sub-forward-tail-3 Inv-loop μ-loop
+sub-forward-tail-3 c = omega arith
+
+part-forward-tail-start-3 : tie.Need-part-forward-tail-start-3 Inv-loop μ-loop
+part-forward-tail-start-3 c = omega arith
+
+part-forward-tail-end-3 : tie.Need-part-forward-tail-end-3 Inv-loop μ-loop
+part-forward-tail-end-3 c = omega arith
+
+sub-forward-tail-4 : tie.Need-sub-forward-tail-4 Inv-loop μ-loop
+sub-forward-tail-4 c = omega arith
+
+part-forward-tail-start-4 : tie.Need-part-forward-tail-start-4 Inv-loop μ-loop
+part-forward-tail-start-4 c = omega arith
+
+part-forward-tail-end-4 : tie.Need-part-forward-tail-end-4 Inv-loop μ-loop
+part-forward-tail-end-4 c = omega arith
+
+forward-tail-requires : tie.Need-forward-tail-requires Inv-loop μ-loop
+forward-tail-requires c κs = search needs
+
 same-length : tie.Need-same-length Inv-loop μ-loop
-same-length c = omega arith
+same-length c =
+    let t = c .before .before .before .before .before .before in
+    let l = t .before .before .before .before .before .before in
+    let full : ℕ = length (l .before .before .before .before .before .args .y .now) / 16 * 16 in
+    same-len-mid full (length (l .loop .y) - full) (l .loop .y) (t .forward-tail .last .1 .0) (t .forward-tail .kept .1 .0) ∙ l .loop .inv .2 .0
 
 same-length-2 : tie.Need-same-length-2 Inv-loop μ-loop
-same-length-2 c = omega arith
+same-length-2 c =
+    let t = c .before .before .before .before .before .before in
+    let l = t .before .before .before .before .before .before in
+    let full : ℕ = length (l .before .before .before .before .before .args .y .now) / 16 * 16 in
+    same-len-mid full (length (l .loop .u) - full) (l .loop .u) (t .forward-tail .last .1 .1 .0) (t .forward-tail .kept .1 .1 .0) ∙ l .loop .inv .3 .0
 
 same-length-3 : tie.Need-same-length-3 Inv-loop μ-loop
-same-length-3 c = omega arith
+same-length-3 c =
+    let t = c .before .before .before .before .before .before in
+    let l = t .before .before .before .before .before .before in
+    let full : ℕ = length (l .before .before .before .before .before .args .y .now) / 16 * 16 in
+    same-len-mid full (length (l .loop .v) - full) (l .loop .v) (t .forward-tail .last .1 .1 .1 .0) (t .forward-tail .kept .1 .1 .1 .0) ∙ l .loop .inv .4 .0
 
 returns : tie.Need-returns Inv-loop μ-loop
 returns c =
-    let l = c .before in
-    (so-far-all _ _ (l .loop .i) (l .loop .inv .0) (omega arith), (so-far-all _ _ (l .loop .i) (l .loop .inv .1) (omega arith), so-far-all _ _ (l .loop .i) (l .loop .inv .2) (omega arith)))
+    let t = c .before .before .before .before .before .before in
+    let i = t .before .before .before .before .before in
+    let l = i .before in
+    let s = l .before .before .before .before .before in
+    let a = s .args in
+    let px = a .pixels .now in
+    let full : ℕ = length (a .y .now) / 16 * 16 in
+    let e = t .forward-tail .ensures in (
+      pixels-rest px (a .y .now) _ (λ p. p .y) refl (s .pre .pixels) (l .loop .k) full refl (l .loop .inv .1) (i .loop-test .left) (l .loop .inv .2) (e .0),
+      (
+        pixels-rest px (a .u .now) _ (λ p. p .u) (s .pre .same-u) (s .pre .pixels) (l .loop .k) full refl (l .loop .inv .1) (i .loop-test .left) (l .loop .inv .3) (e .1 .0),
+        pixels-rest px (a .v .now) _ (λ p. p .v) (s .pre .same-v) (s .pre .pixels) (l .loop .k) full refl (l .loop .inv .1) (i .loop-test .left) (l .loop .inv .4) (e .1 .1),
+      ),
+    )
 
 pub forward-row-spec : {M : Type 1} → statement M
 forward-row-spec =
@@ -92,22 +179,40 @@ forward-row-spec =
     (tie.spec
     Inv-loop
     μ-loop
+    mul-full
     loop-holds
-    mul-r
-    shared-slice-read-r
-    mul-g
-    add-g
-    shared-slice-read-g
-    mul-b
-    add-b
-    shared-slice-read-b
-    forward-requires
-    slice-write-y
-    slice-write-u
-    slice-write-v
-    add-i
+    add-end
+    mul-forward-part
+    mul-forward-part-2
+    sub-forward-part
+    part-forward-part-start
+    part-forward-part-end
+    sub-forward-part-2
+    part-forward-part-start-2
+    part-forward-part-end-2
+    sub-forward-part-3
+    part-forward-part-start-3
+    part-forward-part-end-3
+    sub-forward-part-4
+    part-forward-part-start-4
+    part-forward-part-end-4
+    forward-part-requires
     loop-less
     loop-again
+    mul-forward-tail
+    sub-forward-tail
+    part-forward-tail-start
+    part-forward-tail-end
+    sub-forward-tail-2
+    part-forward-tail-start-2
+    part-forward-tail-end-2
+    sub-forward-tail-3
+    part-forward-tail-start-3
+    part-forward-tail-end-3
+    sub-forward-tail-4
+    part-forward-tail-start-4
+    part-forward-tail-end-4
+    forward-tail-requires
     same-length
     same-length-2
     same-length-3
