@@ -49,6 +49,31 @@ apart-back px r g b p xs n pick hr hg hb hp long red green blue now back =
     ((ap (λ (l : List ℕ). getD l k 0) green ∙ getD-paint every _ g k (omega arith)) i)
     ((ap (λ (l : List ℕ). getD l k 0) blue ∙ getD-paint every _ b k (omega arith)) i))))
 
+-- the parts that a pass over n pixels is lent fit each other
+pub row-fits : (px y u v : List ℕ) (at to line ey eu ev n : ℕ) → to ≡ at + 4 * n → to ≤ length px → ey ≡ line + n → ey ≤ length y → eu ≡ line + n → eu ≤ length u → ev ≡ line + n → ev ≤ length v
+    → PixelsFit (length (take (to - at) (drop at px))) (length (take (ey - line) (drop line y))) (length (take (eu - line) (drop line u))) (length (take (ev - line) (drop line v)))
+row-fits px y u v at to line ey eu ev n to-is hp ey-is hy eu-is hu ev-is hv =
+    rw (part-long px at to (omega arith) hp, part-long y line ey (omega arith) hy, part-long u line eu (omega arith) hu, part-long v line ev (omega arith) hv)
+    (record { pixels = omega arith; same-u = omega arith; same-v = omega arith })
+
+-- sixteens of n, one more
+pub by-sixteens : (n k : ℕ) → k % 16 ≡ 0 → k < n / 16 * 16 → ((k + 16) % 16 ≡ 0) × (k + 16 ≤ n / 16 * 16) × (n / 16 * 16 - (k + 16) < n / 16 * 16 - k)
+by-sixteens n k by-16 lt = (omega arith, omega arith, omega arith)
+
+-- the parts of a row's pass: 16 pixels, and those that are left
+module _ (px y₀ u₀ v₀ y u v : List ℕ) (fit : PixelsFit (length px) (length y₀) (length u₀) (length v₀)) (hy : length y ≡ length y₀) (hu : length u ≡ length u₀) (hv : length v ≡ length v₀) where
+  pub turn-fits : (k : ℕ) → k % 16 ≡ 0 → k < length y₀ / 16 * 16
+      → PixelsFit (length (take (4 * (k + 16) - 4 * k) (drop (4 * k) px))) (length (take (k + 16 - k) (drop k y))) (length (take (k + 16 - k) (drop k u))) (length (take (k + 16 - k) (drop k v))) × (length (take (k + 16 - k) (drop k y)) ≡ 16)
+  turn-fits k by-16 lt = (
+    row-fits px y u v (4 * k) (4 * (k + 16)) k (k + 16) (k + 16) (k + 16) 16 (omega arith) (omega arith) refl (omega arith) refl (omega arith) refl (omega arith),
+    part-long y k (k + 16) (omega arith) (omega arith) ∙ omega arith,
+  )
+
+  pub rest-fits : (a : ℕ) → a ≡ length y₀ / 16 * 16
+      → PixelsFit (length (take (length px - 4 * a) (drop (4 * a) px))) (length (take (length y - a) (drop a y))) (length (take (length u - a) (drop a u))) (length (take (length v - a) (drop a v)))
+  rest-fits a is =
+      row-fits px y u v (4 * a) (length px) a (length y) (length u) (length v) (length y - a) (omega arith) (omega arith) (omega arith) (omega arith) (omega arith) (omega arith) (omega arith) (omega arith)
+
 -- one sample of a row of n pixels, of which the first k are converted
 module _ (px xs : List ℕ) (n : ℕ) (pick : Yuv → ℕ) (long : length xs ≡ n) (pixels : length px ≡ 4 * n) where
   -- the pixels from a to below e were lent, converted and came back
@@ -76,18 +101,6 @@ module _ (px xs : List ℕ) (n : ℕ) (pick : Yuv → ℕ) (long : length xs ≡
 -- row `row` of the input is within it
 pub pixels-in : (width height row n : ℕ) → width * height * 4 ≤ n → row < height → 4 * (row * width) + 4 * width ≤ n
 pixels-in width height row n fits h = omega (arith, row-in width height row h, mul-comm width height)
-
--- the parts that a row's pass is lent fit each other
-pub row-fits : (px y u v : List ℕ) (at line width : ℕ) → at + 4 * width ≤ length px → line + width ≤ length y → line + width ≤ length u → line + width ≤ length v
-    → PixelsFit (length (take (at + 4 * width - at) (drop at px))) (length (take (line + width - line) (drop line y))) (length (take (line + width - line) (drop line u))) (length (take (line + width - line) (drop line v)))
-row-fits px y u v at line width hp hy hu hv =
-    rw (
-      part-long px at (at + 4 * width) (omega arith) hp,
-      part-long y line (line + width) (omega arith) hy,
-      part-long u line (line + width) (omega arith) hu,
-      part-long v line (line + width) (omega arith) hv,
-    )
-    (record { pixels = omega arith; same-u = refl; same-v = refl })
 
 -- the parts that were lent have come back, and hold the converted pixels
 pub line-back : (px xs : List ℕ) (at n a : ℕ) (pick : Yuv → ℕ) {ys : List ℕ}

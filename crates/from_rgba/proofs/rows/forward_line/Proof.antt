@@ -1,7 +1,8 @@
 -- `from_rgba::rows::forward_line` meets its contract: the pixels and the three rows are parts of the same number of places.
 -- Assumes nothing.
-use Prim.Native.Nat.{_+_, _-_}
+use Prim.Native.Nat.{_+_, _*_, _-_}
 use native.Mathlib.Omega.{arith}
+use mathlib.Core.Path.{refl}
 use borrow.Rule.Slice.PartMut.{same-len-mid}
 use Rattle.from_rgba.proofs.Converted.{row-fits, line-back}
 use Rattle.from_rgba.proofs.rows.forward_line.Statement.{statement}
@@ -56,7 +57,7 @@ forward-row-requires : tie.Need-forward-row-requires
 forward-row-requires c κs =
     let s = c .before .before .before .before .before .before .before .before in
     let a = s .args in
-    row-fits (a .rgba .now) (a .y .now) (a .u .now) (a .v .now) (a .at) (a .line) (a .n) (s .pre .pixels) (s .pre .y-fits) (s .pre .u-fits) (s .pre .v-fits)
+    row-fits (a .rgba .now) (a .y .now) (a .u .now) (a .v .now) (a .at) (a .at + 4 * a .n) (a .line) _ _ _ (a .n) refl (s .pre .pixels) refl (s .pre .y-fits) refl (s .pre .u-fits) refl (s .pre .v-fits)
 
 same-length : tie.Need-same-length
 same-length c =

@@ -1,19 +1,22 @@
 -- `from_rgba::rows::forward_part` meets its contract: the 16 colours went through arrays, `apart-back` for each of Y, U and V.
 -- Assumes nothing.
+use borrow.Author.Needs.{needs}
 use mathlib.Core.Path.{refl, _∙_}
 use Rattle.from_rgba.proofs.Converted.{apart-back}
-use borrow.Author.Needs.{needs}
 use Rattle.from_rgba.proofs.rows.forward_part.Statement.{statement}
 use Rattle.from_rgba.proofs.rows.forward_part.Tie as tie
 
 apart-requires : tie.Need-apart-requires
-apart-requires c κs = let z10 = c in search needs
+apart-requires c κs = search needs
 
 forward-16-requires : tie.Need-forward-16-requires
 forward-16-requires c κs = search needs
 
 put-16-requires : tie.Need-put-16-requires
-put-16-requires c κs = search needs
+put-16-requires c κs =
+    let f = c .before .before in
+    let t = f .before .before .before .before .before .before .before in
+    t .before .before .before .before .before .before .before .before .pre .1
 
 put-16-requires-2 : tie.Need-put-16-requires-2
 put-16-requires-2 c κs = search needs
@@ -22,7 +25,9 @@ put-16-requires-3 : tie.Need-put-16-requires-3
 put-16-requires-3 c κs = search needs
 
 same-length : tie.Need-same-length
-same-length c = search needs
+same-length c =
+    let u = c .before .before .before .before .before .before .before in
+    u .before .before .before .before .before .put-16 .kept .0
 
 same-length-2 : tie.Need-same-length-2
 same-length-2 c = search needs

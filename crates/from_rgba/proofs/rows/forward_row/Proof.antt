@@ -1,7 +1,6 @@
 -- `from_rgba::rows::forward_row` meets its contract. The invariant: in each row the first k samples, k by sixteens, are the first k pixels' converted.
--- `pixels-more` is one turn, and the rest.
+-- `pixels-turn` is one turn, `pixels-rest` what is left.
 -- Assumes nothing.
-use borrow.Author.Needs.{needs}
 use Prim.Native.Nat.{ℕ, _+_, _*_, _/_, _-_, _%_, _≤_}
 use native.Mathlib.Omega.{arith}
 use mathlib.Core.Path.{_≡_, refl, _∙_}
@@ -9,7 +8,7 @@ use lib.ListN.{length}
 use borrow.Rule.Slice.PartMut.{same-len-mid}
 use Rattle.lent.proofs.SoFar.{SoFar, so-far-none}
 use Rattle.from_rgba.specs.Rows.{colourAt}
-use Rattle.from_rgba.proofs.Converted.{pixels-turn, pixels-rest}
+use Rattle.from_rgba.proofs.Converted.{by-sixteens, turn-fits, rest-fits, pixels-turn, pixels-rest}
 use Rattle.from_rgba.proofs.rows.forward_row.Statement.{statement}
 use Rattle.from_rgba.proofs.rows.forward_row.Tie as tie
 
@@ -72,10 +71,18 @@ part-forward-part-end-4 : tie.Need-part-forward-part-end-4 Inv-loop μ-loop
 part-forward-part-end-4 c = omega arith
 
 forward-part-requires : tie.Need-forward-part-requires Inv-loop μ-loop
-forward-part-requires c κs = search needs
+forward-part-requires c κs =
+    let i = c .before .before .before .before in
+    let l = i .before in
+    let s = l .before .before .before .before .before in
+    let a = s .args in
+    turn-fits (a .pixels .now) (a .y .now) (a .u .now) (a .v .now) (l .loop .y) (l .loop .u) (l .loop .v) (s .pre) (l .loop .inv .2 .0) (l .loop .inv .3 .0) (l .loop .inv .4 .0) (l .loop .k) (l .loop .inv .0) (i .loop-test .taken)
 
 loop-less : tie.Need-loop-less Inv-loop μ-loop
-loop-less c = omega arith
+loop-less c =
+    let i = c .before .before .before .before .before .before .before .before .before .before .before in
+    let l = i .before in
+    by-sixteens (length (l .before .before .before .before .before .args .y .now)) (l .loop .k) (l .loop .inv .0) (i .loop-test .taken) .2
 
 loop-again : tie.Need-loop-again Inv-loop μ-loop
 loop-again c =
@@ -85,9 +92,10 @@ loop-again c =
     let s = l .before .before .before .before .before in
     let a = s .args in
     let px = a .pixels .now in
+    let more = by-sixteens (length (a .y .now)) (l .loop .k) (l .loop .inv .0) (i .loop-test .taken) in
     let e = call .forward-part .ensures in (
-      omega arith,
-      omega arith,
+      more .0,
+      more .1,
       pixels-turn px (a .y .now) _ (λ p. p .y) refl (s .pre .pixels) (l .loop .k) (l .loop .inv .0) (i .loop-test .taken) (l .loop .inv .2) (e .0),
       pixels-turn px (a .u .now) _ (λ p. p .u) (s .pre .same-u) (s .pre .pixels) (l .loop .k) (l .loop .inv .0) (i .loop-test .taken) (l .loop .inv .3) (e .1 .0),
       pixels-turn px (a .v .now) _ (λ p. p .v) (s .pre .same-v) (s .pre .pixels) (l .loop .k) (l .loop .inv .0) (i .loop-test .taken) (l .loop .inv .4) (e .1 .1),
@@ -133,7 +141,11 @@ part-forward-tail-end-4 : tie.Need-part-forward-tail-end-4 Inv-loop μ-loop
 part-forward-tail-end-4 c = omega arith
 
 forward-tail-requires : tie.Need-forward-tail-requires Inv-loop μ-loop
-forward-tail-requires c κs = search needs
+forward-tail-requires c κs =
+    let l = c .before .before .before .before .before in
+    let s = l .before .before .before .before .before in
+    let a = s .args in
+    rest-fits (a .pixels .now) (a .y .now) (a .u .now) (a .v .now) (l .loop .y) (l .loop .u) (l .loop .v) (s .pre) (l .loop .inv .2 .0) (l .loop .inv .3 .0) (l .loop .inv .4 .0) (length (a .y .now) / 16 * 16) refl
 
 same-length : tie.Need-same-length Inv-loop μ-loop
 same-length c =
