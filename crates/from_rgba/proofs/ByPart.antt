@@ -31,6 +31,9 @@ module _ (s : ℕ → ℕ) (xs : List ℕ) (a : ℕ) where
       (λ t. let f = within-facts a (a + (i + 1)) k t in
       within-holds a (a + i) k (f .0) (⊎-elim (λ lt. lt) (λ ge. absurd (ne (omega (arith, f .1)))) (split k (a + i)))))
 
+pub part-long : (xs : List ℕ) (a e : ℕ) → a ≤ e → e ≤ length xs → length (take (e - a) (drop a xs)) ≡ e - a
+part-long xs a e h fits = length-take-le (e - a) (drop a xs) (simp length-drop (omega arith))
+
 -- a part was lent, written whole and came back: the buffer is painted there
 pub part-within : (xs : List ℕ) (a e : ℕ) (u : ℕ → ℕ) {ys : List ℕ} → a ≤ e → e ≤ length xs → ys ≡ paint every u (take (e - a) (drop a xs))
     → take a xs ++ (ys ++ drop (e - a) (drop a xs)) ≡ paint (within a e) (λ k. u (k - a)) xs
@@ -44,11 +47,8 @@ part-within xs a e u {ys} ordered fits is =
     all : List ℕ
     all = take a xs ++ (ys ++ drop (e - a) (drop a xs))
 
-    part-long : length (take (e - a) (drop a xs)) ≡ e - a
-    part-long = length-take-le (e - a) (drop a xs) (simp length-drop (omega arith))
-
     long : length ys ≡ e - a
-    long = ap length is ∙ length-paint _ _ _ ∙ part-long
+    long = ap length is ∙ length-paint _ _ _ ∙ part-long xs a e ordered fits
 
     out : (k : ℕ) → (within a e k ≡ true → ⊥) → getD xs k 0 ≡ cond (within a e k) (u (k - a)) (getD xs k 0)
     out k never = sym (cond-false (within a e k) _ _ (never-true _ never))
@@ -59,7 +59,7 @@ part-within xs a e u {ys} ordered fits is =
         ap (λ (m : ℕ). getD all m 0) k-is
         ∙ part-in xs ys a e ordered fits long (k - a) (omega arith)
         ∙ ap (λ (l : List ℕ). getD l (k - a) 0) is
-        ∙ getD-paint every u _ (k - a) (omega (arith, part-long))
+        ∙ getD-paint every u _ (k - a) (omega (arith, part-long xs a e ordered fits))
         ∙ sym (cond-true (within a e k) _ _ (within-holds a e k ge lt))
 
 -- ---- what is written so far

@@ -5,8 +5,8 @@ use native.Mathlib.Nat.{add-zero, zero-add, mul-comm}
 use native.Mathlib.Omega.{arith}
 use mathlib.Core.Path.{_≡_, refl, sym, ap, _∙_}
 use mathlib.Core.List.{List, _++_}
-use lib.ListN.{length, getD, take, drop, length-drop}
-use lib.Seq.{getD-take, getD-drop, length-take-le}
+use lib.ListN.{length, getD, take, drop}
+use lib.Seq.{getD-take, getD-drop}
 use Rattle.lent.specs.Paint.{paint, painted, every, upTo}
 use Rattle.lent.proofs.Cells.{row-in}
 use Rattle.lent.proofs.Paint.{getD-paint, paint-ext}
@@ -16,12 +16,9 @@ use Rattle.lent.proofs.SoFar.{SoFar, so-far-all}
 use Rattle.colour.specs.Colour.{forwardOf}
 use Rattle.colour.specs.declared.Yuv.{Yuv}
 use Rattle.from_rgba.specs.Rows.{colourAt, colourApart, inside, lineOf, linePainted, PixelsFit}
-use Rattle.from_rgba.proofs.ByPart.{so-far-part}
+use Rattle.from_rgba.proofs.ByPart.{part-long, so-far-part}
 use Rattle.from_rgba.proofs.PartRows.{part-more}
 use Rattle.from_rgba.proofs.Padding.{inside-row, inside-facts}
-
-pub part-long : (xs : List ℕ) (a e : ℕ) → a ≤ e → e ≤ length xs → length (take (e - a) (drop a xs)) ≡ e - a
-part-long xs a e h fits = length-take-le (e - a) (drop a xs) (simp length-drop (omega arith))
 
 -- pixel k of the part that starts at pixel `first`
 pub part-colour : (px : List ℕ) (first at n k : ℕ) → at ≡ 4 * first → 4 * k + 4 ≤ n → colourAt (take n (drop at px)) k ≡ colourAt px (first + k)
