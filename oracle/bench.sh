@@ -13,6 +13,11 @@ tables() { # WORDS: of the files that there are
     "$oracle/bench.py" "$@" "${files[@]}"
 }
 
+case ${1:-} in
+'' | --only | --page) ;;
+*) sed -n '2,/^[^#]/s/^# \{0,1\}//p' "${BASH_SOURCE[0]}"; [[ $1 == --help ]]; exit ;;
+esac
+
 if [[ ${1:-} == --page ]]; then
     [[ -s $rows/plain ]] || { echo 'bench.sh: no run has left rows: oracle/bench.sh first' >&2; exit 1; }
     tables --page
