@@ -21,8 +21,8 @@ use Rattle.lent.proofs.Taken.{within-facts}
 use Rattle.lent.proofs.Painted.{painted-at, painted-is, painted-ext, painted-painted}
 use Rattle.colour.specs.Colour.{averageOf}
 use Rattle.from_rgba.specs.Averaged.{averaged}
-use Rattle.from_rgba.proofs.ByPart.{so-far-past, so-far-within}
-use Rattle.from_rgba.proofs.ManyRows.{rows-kept, many-more}
+use Rattle.lent.proofs.ByPart.{so-far-past, so-far-within}
+use Rattle.lent.proofs.ManyRows.{rows-kept, many-more}
 
 -- ---- what `averaged` says at a place
 

@@ -16,8 +16,8 @@ use Rattle.lent.proofs.SoFar.{SoFar, so-far-all}
 use Rattle.colour.specs.Colour.{forwardOf}
 use Rattle.colour.specs.declared.Yuv.{Yuv}
 use Rattle.from_rgba.specs.Rows.{colourAt, colourApart, inside, lineOf, linePainted, PixelsFit}
-use Rattle.from_rgba.proofs.ByPart.{part-long, so-far-part}
-use Rattle.from_rgba.proofs.PartRows.{part-more}
+use Rattle.lent.proofs.ByPart.{part-long, so-far-part}
+use Rattle.lent.proofs.PartRows.{part-more}
 use Rattle.from_rgba.proofs.Padding.{inside-row, inside-facts}
 
 -- pixel k of the part that starts at pixel `first`

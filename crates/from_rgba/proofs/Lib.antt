@@ -2,9 +2,6 @@
 -- The laws of averages: a pair of rows part by part, a plane pair by pair.
 -- The laws of the padding and of the converted pixels.
 pub mod FromRgbaOutcome
-pub mod ManyRows
-pub mod ByPart
 pub mod Blocks
-pub mod PartRows
 pub mod Padding
 pub mod Converted

@@ -8,6 +8,9 @@ pub mod Taken
 pub mod Parts
 pub mod Copies
 pub mod Rows
+pub mod ByPart
+pub mod ManyRows
+pub mod PartRows
 pub mod Lists
 pub mod Samples
 pub mod Pixels

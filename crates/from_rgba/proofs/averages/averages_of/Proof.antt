@@ -8,7 +8,7 @@ use Rattle.lent.specs.Samples.{sample}
 use Rattle.lent.proofs.SoFar.{SoFar, so-far-none}
 use Rattle.from_rgba.specs.Averaged.{averaged}
 use Rattle.from_rgba.proofs.Blocks.{two-averaged}
-use Rattle.from_rgba.proofs.ByPart.{so-far-two}
+use Rattle.lent.proofs.ByPart.{so-far-two}
 use Rattle.from_rgba.proofs.averages.averages_of.Statement.{statement}
 use Rattle.from_rgba.proofs.averages.averages_of.Tie as tie
 

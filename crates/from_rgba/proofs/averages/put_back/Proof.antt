@@ -5,7 +5,7 @@ use native.Mathlib.Omega.{arith}
 use mathlib.Core.Path.{_≡_, refl, ap}
 use lib.ListN.{length, getD, length-set}
 use Rattle.lent.specs.Paint.{paint, within}
-use Rattle.from_rgba.proofs.ByPart.{within-none, within-next}
+use Rattle.lent.proofs.ByPart.{within-none, within-next}
 use Rattle.from_rgba.proofs.averages.put_back.Statement.{statement}
 use Rattle.from_rgba.proofs.averages.put_back.Tie as tie
 

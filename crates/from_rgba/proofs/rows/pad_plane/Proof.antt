@@ -11,7 +11,7 @@ use Rattle.lent.proofs.Cells.{row-in}
 use Rattle.lent.proofs.Painted.{length-painted}
 use Rattle.lent.proofs.Rows.{rows-none, rows-all}
 use Rattle.from_rgba.specs.Rows.{inside}
-use Rattle.from_rgba.proofs.PartRows.{part-more}
+use Rattle.lent.proofs.PartRows.{part-more}
 use Rattle.from_rgba.proofs.Padding.{padding-in, padding-row}
 use Rattle.from_rgba.proofs.rows.pad_plane.Statement.{statement}
 use Rattle.from_rgba.proofs.rows.pad_plane.Tie as tie

@@ -64,6 +64,13 @@ part-within xs a e u {ys} ordered fits is =
 
 -- ---- what is written so far
 
+pub below-or-within : (a e k : ℕ) → a ≤ e → (ltb k a || within a e k) ≡ ltb k e
+below-or-within a e k ordered =
+    same-test (ltb k a || within a e k) (ltb k e)
+    (λ t. lt-ltb k e (⊎-elim (λ l. omega (arith, ltb-true k a l)) (λ w. within-facts a e k w .1) (either (ltb k a) (within a e k) t)))
+    (λ t. let lt = ltb-true k e t in
+    ⊎-elim (λ l. or-left (ltb k a) (within a e k) (lt-ltb k a l)) (λ g. or-right (ltb k a) (within a e k) (within-holds a e k g lt)) (split k a))
+
 module _ (s : ℕ → ℕ) (xs : List ℕ) where
   -- the places that are still to come are as they were
   pub so-far-past : {ys : List ℕ} (i k : ℕ) → SoFar s xs ys i → i ≤ k → k < length xs → getD ys k 0 ≡ getD xs k 0
@@ -83,16 +90,9 @@ module _ (s : ℕ → ℕ) (xs : List ℕ) where
       → SoFar s xs is e
   so-far-within a e u ordered f back from = (
     ap length back ∙ length-paint _ _ _ ∙ f .0,
-    back ∙ ap (paint (within a e) u) (f .1) ∙ paint-paint (λ k. ltb k a) (within a e) s u xs ∙ paint-ext _ (λ k. ltb k e) _ s xs (λ k h. same k) (λ k h t. source k),
+    back ∙ ap (paint (within a e) u) (f .1) ∙ paint-paint (λ k. ltb k a) (within a e) s u xs ∙ paint-ext _ (λ k. ltb k e) _ s xs (λ k h. below-or-within a e k ordered) (λ k h t. source k),
   )
     where
-      same : (k : ℕ) → (ltb k a || within a e k) ≡ ltb k e
-      same k =
-          same-test (ltb k a || within a e k) (ltb k e)
-          (λ t. lt-ltb k e (⊎-elim (λ l. omega (arith, ltb-true k a l)) (λ w. within-facts a e k w .1) (either (ltb k a) (within a e k) t)))
-          (λ t. let lt = ltb-true k e t in
-          ⊎-elim (λ l. or-left (ltb k a) (within a e k) (lt-ltb k a l)) (λ g. or-right (ltb k a) (within a e k) (within-holds a e k g lt)) (split k a))
-
       source : (k : ℕ) → cond (within a e k) (u k) (s k) ≡ s k
       source k = by (within a e k) (λ t. let w = within-facts a e k t in from k (w .0) (w .1))
         where
