@@ -1,12 +1,28 @@
 // The colour arithmetic of one pixel or one 2x2 block: RGB to YUV and back (MS-RDPEGFX 3.3.8.3.1), the average of a block
 // and the filter that undoes it (3.3.8.3.2).
 // Promised: each call is total on bytes and answers what the formula of specs/Colour.antt says over the whole numbers, with
-// division rounded down. The code has no signed number: every sum is at least 0 and fits 16 bits, which compilers turn
-// into short vector code.
+// division rounded down. The reverse transform takes its products from four tables (products.rt, specs/Products.antt); the rest has no
+// signed number. Every sum fits 16 bits, which compilers turn into short vector code.
+pub mod products; // the four tables of products
+
 ghost use mathlib.Core.Path.{_≡_};
 ghost use Prim.Native.Nat.{_+_, _*_, _-_, _/_, _<_, min};
 ghost use lib.ListN.{getD};
+ghost use lib.Signed.{mag};
+ghost use Rattle.colour.specs.Whole.{_÷_};
 ghost use Rattle.colour.specs.Colour.{forwardOf, reverseOf, averageOf, filteredOf, filterOf};
+ghost use Rattle.colour.specs.Products.{
+  redV,
+  greenU,
+  greenV,
+  blueU,
+  redShareOf,
+  greenShareOf,
+  blueShareOf,
+  Share,
+  channelOf,
+  shadeOf,
+};
 
 #[repr(C)]
 pub struct Yuv {
@@ -17,6 +33,9 @@ pub struct Yuv {
 
 // A pixel by value: red, green, blue, alpha.
 pub type Rgba = [u8; 4];
+
+// A product for each chroma byte.
+pub type Table = [i32; 256];
 
 // The four chroma samples of a 2x2 block: the even-even one, then right, below, diagonal.
 pub struct Block {
@@ -79,35 +98,109 @@ pub fn forward(r: u8, g: u8, b: u8) -> Yuv
     Yuv { y, u, v }
 }
 
-// 403 is 256 + 147, and 403 x 128 is 202 x 256 - 128: the whole 256 leave the division, and what is left fits 16 bits.
-fn red(y: u8, v: u8) -> u8
-    ensures { λ r. ⌜ r ≡ min (y + v + (147 * v + 128) / 256 - 202) 255 ⌝ }
+// What a product adds to a channel: p / 256, rounded down, since (256 Y + p) / 256 is Y + p / 256.
+fn share(p: i32) -> i16
+    requires { ⌜ mag p < 65536 ⌝ }
+    ensures { λ s. ⌜ s ≡ p ÷ 256 ⌝ }
 {
-    fit(wide(y) + wide(v) + (147 * wide(v) + 128) / 256, 202)
+    (p >> 8) as i16
 }
 
-// (48 + 120) x 128 is 84 x 256. What is taken away is rounded up (+ 255), so that the answer is rounded down.
-fn green(y: u8, u: u8, v: u8) -> u8
-    ensures { λ r. ⌜ r ≡ min (y + 84 - (48 * u + 120 * v + 255) / 256) 255 ⌝ }
+// A chroma byte as its place in a table.
+fn place(c: u8) -> usize
+    ensures { λ r. ⌜ (r ≡ c) × (r < 256) ⌝ }
 {
-    fit(wide(y) + 84, (48 * wide(u) + 120 * wide(v) + 255) / 256)
+    c as usize
 }
 
-// 475 is 256 + 219, and 475 x 128 is 238 x 256 - 128.
-fn blue(y: u8, u: u8) -> u8
-    ensures { λ r. ⌜ r ≡ min (y + u + (219 * u + 128) / 256 - 238) 255 ⌝ }
+// The four tables by value, each with its rule. A conversion asks for them once and lends them on: a table is made anew at each call.
+pub fn red_v() -> Table
+    ensures { λ t. ⌜ t ≡ redV ⌝ }
 {
-    fit(wide(y) + wide(u) + (219 * wide(u) + 128) / 256, 238)
+    products::RED_V
 }
 
-// The pixel of Y, U and V. Ports `yuv_to_rgba`.
+pub fn green_u() -> Table
+    ensures { λ t. ⌜ t ≡ greenU ⌝ }
+{
+    products::GREEN_U
+}
+
+pub fn green_v() -> Table
+    ensures { λ t. ⌜ t ≡ greenV ⌝ }
+{
+    products::GREEN_V
+}
+
+pub fn blue_u() -> Table
+    ensures { λ t. ⌜ t ≡ blueU ⌝ }
+{
+    products::BLUE_U
+}
+
+// What V adds to red.
+pub fn red_share(v: u8, rv: &Table) -> i16
+    requires { ⌜ now rv ≡ redV ⌝ }
+    ensures { λ s. ⌜ Share s (redShareOf v) ⌝ }
+{
+    let p = rv[place(v)];
+    share(p)
+}
+
+// What U and V add to green: the sum of both products is rounded down, and not each of them.
+pub fn green_share(u: u8, v: u8, gu: &Table, gv: &Table) -> i16
+    requires { ⌜ (now gu ≡ greenU) × (now gv ≡ greenV) ⌝ }
+    ensures { λ s. ⌜ Share s (greenShareOf u v) ⌝ }
+{
+    let p = gu[place(u)];
+    let q = gv[place(v)];
+    share(p + q)
+}
+
+// What U adds to blue.
+pub fn blue_share(u: u8, bu: &Table) -> i16
+    requires { ⌜ now bu ≡ blueU ⌝ }
+    ensures { λ s. ⌜ Share s (blueShareOf u) ⌝ }
+{
+    let p = bu[place(u)];
+    share(p)
+}
+
+// A channel: Y and its share, clamped to a byte.
+fn channel(y: u8, s: i16) -> u8
+    requires { ⌜ mag s < 512 ⌝ }
+    ensures { λ r. ⌜ r ≡ channelOf y s ⌝ }
+{
+    let t = s + y as i16;
+    if t < 0 {
+        return 0;
+    }
+    if t < 255 { t as u8 } else { 255 }
+}
+
+// The pixel of Y and the shares of its three channels.
+pub fn shade(y: u8, r: i16, g: i16, b: i16) -> Rgba
+    requires { ⌜ (mag r < 512) × (mag g < 512) × (mag b < 512) ⌝ }
+    ensures { λ p. ⌜ p ≡ shadeOf y r g b ⌝ }
+{
+    let red = channel(y, r);
+    let green = channel(y, g);
+    let blue = channel(y, b);
+    [red, green, blue, 255]
+}
+
+// The pixel of Y, U and V, its products from the four tables. Ports `yuv_to_rgba`.
 pub fn reverse(y: u8, u: u8, v: u8) -> Rgba
     ensures { λ p. ⌜ p ≡ reverseOf y u v ⌝ }
 {
-    let r = red(y, v);
-    let g = green(y, u, v);
-    let b = blue(y, u);
-    [r, g, b, 255]
+    let rv = red_v();
+    let gu = green_u();
+    let gv = green_v();
+    let bu = blue_u();
+    let r = red_share(v, &rv);
+    let g = green_share(u, v, &gu, &gv);
+    let b = blue_share(u, &bu);
+    shade(y, r, g, b)
 }
 
 // The average of a block. Ports `average`.
