@@ -1,16 +1,17 @@
 -- The walk over rows, once for every rule that makes a pixel: each row is lent as a part of the output, written whole, and comes back.
 -- Assumes nothing.
 use Prim.Native.Nat.{ℕ, _+_, _*_, _/_, _%_, _-_, _<_, _≤_}
-use native.Mathlib.Nat.{mul-comm, mul-assoc}
+use native.Mathlib.Nat.{mul-comm, mul-assoc, add-mul, mul-le-mul-right}
 use native.Mathlib.Omega.{arith}
 use mathlib.Core.Path.{_≡_, refl, ap, _∙_}
 use mathlib.Core.List.{List, _++_}
 use lib.ListN.{length, getD, take, drop}
-use Rattle.lent.specs.Paint.{paint, every, whole}
+use Rattle.lent.specs.Paint.{paint, painted, every, whole}
 use Rattle.lent.specs.Pixels.{bytes}
 use Rattle.lent.proofs.Cells.{row-in, cell-in, width-pos}
 use Rattle.lent.proofs.Painted.{painted-none, painted-at, painted-past, painted-ext}
 use Rattle.lent.proofs.Rows.{whole-none, whole-more, whole-all}
+use Rattle.lent.proofs.ManyRows.{many-more}
 use Rattle.to_rgba.specs.Pictured.{pictured, picturedTo}
 
 pub bytes-of : (n h : ℕ) → h * (4 * n) ≡ 4 * (n * h)
@@ -19,6 +20,10 @@ bytes-of n h = mul-comm h (4 * n) ∙ mul-assoc 4 n h
 -- the part that is lent for row r is within the output
 pub row-room : (n h r out : ℕ) → r < h → h * (4 * n) ≤ out → r * (4 * n) + 4 * n ≤ out
 row-room n h r out lt room = omega (arith, row-in (4 * n) h r lt)
+
+-- and so is what is lent for several rows
+pub lines-room : (n h r lines out : ℕ) → r + lines ≤ h → h * (4 * n) ≤ out → r * (4 * n) + lines * (4 * n) ≤ out
+lines-room n h r lines out le room = omega (arith, add-mul r lines (4 * n), mul-le-mul-right (4 * n) le)
 
 module _ (n h : ℕ) (rule : ℕ → ℕ → List ℕ) (out : List ℕ) where
   pub pictured-none : out ≡ picturedTo 0 n h rule out
@@ -31,6 +36,16 @@ module _ (n h : ℕ) (rule : ℕ → ℕ → List ℕ) (out : List ℕ) where
       → is ≡ picturedTo (r + 1) n h rule out
   unfolding picturedTo
   pictured-more r lt room before wrote back = whole-more (4 * n) h (λ q. bytes (rule q)) out r lt room before wrote back
+
+  -- several rows were lent at once
+  pub pictured-lines : {was is ys : List ℕ} (r lines a e : ℕ) → r + lines ≤ h → h * (4 * n) ≤ length out → a ≡ r * (4 * n) → e ≡ r * (4 * n) + lines * (4 * n)
+      → was ≡ picturedTo r n h rule out
+      → ys ≡ painted (4 * n) lines whole (λ l. bytes (rule (r + l))) (take (e - a) (drop a was))
+      → is ≡ take a was ++ (ys ++ drop (e - a) (drop a was))
+      → is ≡ picturedTo (r + lines) n h rule out
+  unfolding picturedTo
+  pictured-lines r lines a e lt room a-is e-is before wrote back =
+      many-more (4 * n) h (λ q. bytes (rule q)) out room r lines a e _ lt a-is e-is before wrote (λ q c hq hc. refl) back
 
   pub pictured-all : (r : ℕ) → h ≤ r → picturedTo r n h rule out ≡ pictured n h rule out
   unfolding picturedTo pictured

@@ -22,7 +22,7 @@ pub struct Rect {
     pub bottom: u16,
 }
 
-// h rows of n pixels from row `top` and column `left` of the picture on.
+// h rows of n pixels from row `top` and column `left` of the picture on. The tables are asked for once, for all rows.
 fn put_rows(
     out: &mut [u8],
     y: &[u8],
@@ -39,8 +39,12 @@ fn put_rows(
     ensures { λ _. ⌜ now (out .exit) ≡ pictured n h
         (shifted top left (pixelAt stride (now (y .entry)) (now (u .entry)) (now (v .entry)))) (now (out .entry)) ⌝ }
 {
+    let rv = colour::red_v();
+    let gu = colour::green_u();
+    let gv = colour::green_v();
+    let bu = colour::blue_u();
     let wide = 4 * n;
-    let mut r: usize = 0;
+    let mut r = 0;
     while r < h {
         let start = r * wide;
         to_rgba_rows::picture_rows::put_row(
@@ -53,6 +57,10 @@ fn put_rows(
             top + r,
             left,
             n,
+            &rv,
+            &gu,
+            &gv,
+            &bu,
         );
         r += 1;
     }
@@ -123,7 +131,7 @@ pub fn to_rgba(
     lent::Answer { number: 0, count }
 }
 
-// The h rows of a view, n pixels each; luma and chroma are its strides.
+// The h rows of a view, n pixels each, two at a time, since two rows share their chroma; luma and chroma are its strides.
 fn view_rows(
     out: &mut [u8],
     y: &[u8],
@@ -138,12 +146,17 @@ fn view_rows(
     ensures { λ _. ⌜ now (out .exit) ≡ pictured n h
         (viewPixelAt reverseOf luma chroma (now (y .entry)) (now (u .entry)) (now (v .entry))) (now (out .entry)) ⌝ }
 {
+    let rv = colour::red_v();
+    let gu = colour::green_u();
+    let gv = colour::green_v();
+    let bu = colour::blue_u();
     let wide = 4 * n;
-    let mut r: usize = 0;
+    let mut r = 0;
     while r < h {
         let start = r * wide;
-        to_rgba_rows::view_rows::view_row(
-            &mut out[start..start + wide],
+        let lines = lent::least(h - r, 2);
+        to_rgba_rows::view_rows::view_lines(
+            &mut out[start..start + lines * wide],
             y,
             u,
             v,
@@ -151,8 +164,13 @@ fn view_rows(
             chroma,
             r,
             n,
+            lines,
+            &rv,
+            &gu,
+            &gv,
+            &bu,
         );
-        r += 1;
+        r += lines;
     }
 }
 

@@ -1,2 +1,5 @@
--- What one pixel more does to a row.
+-- What a pixel is by its rule; what a part of a row is made of; how parts make a row of a picture, and rows of a view.
 pub mod Rules
+pub mod Shading
+pub mod PictureParts
+pub mod ViewParts

@@ -1,24 +1,35 @@
 -- What the writers ask of their callers: no index is out of range, and no product wraps. In each, out, y, u and v are the buffers' lengths.
 --
---   Inside, BlockInside    one pixel is read: as it stands, or with the block that filters it
+--   PartFits, EvenPartFits      a part of a row: as it stands, or with the blocks that filter it
 --   RowFits, PixelRowsFit       a row of a picture, and its rows
---   ViewRowFits            a row of a view
+--   LinesFit, ViewPartFits, ViewLinesFit      rows of a view that share their chroma: their luma alone; a part of them; the rows
+--   Shares n xs z               the first n of xs are the shares z
+--   Small n xs                  the first n of xs are small enough that no sum with a byte wraps
 use mathlib.Core.Path.{_≡_}
+use mathlib.Core.List.{List}
 use Prim.Native.Nat.{ℕ, _+_, _*_, _/_, _%_, _≤_, _<_}
+use lib.IntN.{ℤ, pos}
+use lib.ListN.{getD}
+use lib.Signed.{mag}
+use Rattle.colour.specs.Products.{Share}
 
--- luma is read at `at`, chroma at c
-pub record Inside (y u v at c : ℕ) : Type 0 where
-  pub y-has : at < y
-  pub u-has : c < u
-  pub v-has : c < v
+-- n pixels, luma from `at` on and chroma from c on
+pub record PartFits (out y u v at c n : ℕ) : Type 0 where
+  pub exact : out ≡ 4 * n
+  pub few : n ≤ 64
+  pub y-has : at + n ≤ y
+  pub u-has : c + n ≤ u
+  pub v-has : c + n ≤ v
 
--- luma is read at `at`, chroma in the block whose rows start at `at` and `below`
-pub record BlockInside (y u v at below : ℕ) : Type 0 where
-  pub y-has : at < y
-  pub u-has : at + 2 ≤ u
-  pub v-has : at + 2 ≤ v
-  pub u-below : below + 2 ≤ u
-  pub v-below : below + 2 ≤ v
+-- n pixels from `at` on, with the blocks whose lower row starts at `below`
+pub record EvenPartFits (out y u v at below n : ℕ) : Type 0 where
+  pub exact : out ≡ 4 * n
+  pub few : n ≤ 64
+  pub y-has : at + n ≤ y
+  pub u-has : at + 2 * ((n + 1) / 2) ≤ u
+  pub v-has : at + 2 * ((n + 1) / 2) ≤ v
+  pub u-below : below + 2 * ((n + 1) / 2) ≤ u
+  pub v-below : below + 2 * ((n + 1) / 2) ≤ v
 
 -- n pixels of row `row` of a picture from column `left` on; `reach` is how far from the row's start the chroma is read
 pub record RowFits (out y u v reach stride row left n : ℕ) : Type 0 where
@@ -41,9 +52,34 @@ pub record PixelRowsFit (out y u v stride rows left top n h : ℕ) : Type 0 wher
   pub even-stride : stride % 2 ≡ 0
   pub even-rows : rows % 2 ≡ 0
 
--- n pixels of row `row` of a view
-pub record ViewRowFits (out y u v luma chroma row n : ℕ) : Type 0 where
-  pub exact : out ≡ 4 * n
-  pub y-fits : row * luma + n ≤ y
+-- columns k to below k + m of `lines` rows of n pixels, whose luma starts at `at`
+pub record LinesFit (out y luma at n k m lines : ℕ) : Type 0 where
+  pub exact : out ≡ lines * (4 * n)
+  pub small : n < 65536
+  pub few : m ≤ 64
+  pub inside : k + m ≤ n
+  pub wide : n ≤ luma
+  pub y-has : at + lines * luma ≤ y
+
+-- the same with their chroma, which starts at c
+pub record ViewPartFits (out y u v luma at c n k m lines : ℕ) : Type 0 where
+  pub fits : LinesFit out y luma at n k m lines
+  pub u-has : c + (m + 1) / 2 ≤ u
+  pub v-has : c + (m + 1) / 2 ≤ v
+
+-- at most two rows of n pixels of a view, from the even row `row` on
+pub record ViewLinesFit (out y u v luma chroma row n lines : ℕ) : Type 0 where
+  pub exact : out ≡ lines * (4 * n)
+  pub small : n < 65536
+  pub few : lines ≤ 2
+  pub even-row : row % 2 ≡ 0
+  pub wide : n ≤ luma
+  pub y-fits : row * luma + lines * luma ≤ y
   pub u-fits : row / 2 * chroma + (n + 1) / 2 ≤ u
   pub v-fits : row / 2 * chroma + (n + 1) / 2 ≤ v
+
+pub record Shares (n : ℕ) (xs : List ℤ) (z : ℕ → ℤ) : Type 0 where
+  pub at : (k : ℕ) → k < n → Share (getD xs k (pos 0)) (z k)
+
+pub record Small (n : ℕ) (xs : List ℤ) : Type 0 where
+  pub at : (k : ℕ) → k < n → mag (getD xs k (pos 0)) < 512

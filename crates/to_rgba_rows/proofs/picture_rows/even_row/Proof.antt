@@ -1,25 +1,28 @@
--- `to_rgba_rows::picture_rows::even_row` meets its contract. The invariant: where the row is even, and in whatever row the
--- pixels before the loop were done, those of i pairs more are done.
+-- `to_rgba_rows::picture_rows::even_row` meets its contract. The invariant: where the row is even, and in whatever row the pixels before the loop were
+-- done, those before `col` are; and a part that is to come starts at an even column. `smooth-more` is one turn.
 -- Assumes nothing.
-use Prim.Native.Nat.{ℕ, _+_, _*_, _/_, _%_, _-_, _≤_}
+use borrow.Author.Needs.{needs}
+use Prim.Native.Nat.{ℕ, _+_, _*_, _-_, _%_, _≤_, _<_}
 use native.Mathlib.Omega.{arith}
 use mathlib.Core.Path.{_≡_, refl, _∙_}
 use mathlib.Core.List.{List}
-use borrow.Author.Needs.{needs}
 use lib.ListN.{length}
 use Rattle.lent.specs.Pixels.{done}
-use Rattle.lent.proofs.Pixels.{done-at, done-all}
+use Rattle.lent.proofs.ByPart.{part-long}
+use Rattle.lent.proofs.Pixels.{done-all}
 use Rattle.to_rgba_rows.specs.Rules.{pixelAt, rowFrom}
-use Rattle.to_rgba_rows.proofs.Rules.{even-step, pair-step}
+use Rattle.to_rgba_rows.proofs.PictureParts.{smooth-more}
 use Rattle.to_rgba_rows.proofs.picture_rows.even_row.Statement.{statement}
 use Rattle.to_rgba_rows.proofs.picture_rows.even_row.Tie as tie
 
 abbrev Inv-loop : tie.InvT-loop
-Inv-loop out₀ y u v stride row left n at first pairs i₀ out i =
-    (i ≤ pairs) × (length out ≡ length out₀) × (row % 2 ≡ 0 → (xs : List ℕ) → length xs ≡ length out₀ → out₀ ≡ done (rowFrom left (pixelAt stride y u v row)) first xs → out ≡ done (rowFrom left (pixelAt stride y u v row)) (first + 2 * i) xs)
+Inv-loop out₀ y u v stride row left n rv gu gv bu at col₀ out col =
+    (col ≤ n) × (col < n → (left + col) % 2 ≡ 0) × (length out ≡ 4 * n)
+    × (row % 2 ≡ 0 → (xs : List ℕ) → length xs ≡ 4 * n → out₀ ≡ done (rowFrom left (pixelAt stride y u v row)) (left % 2) xs
+    → out ≡ done (rowFrom left (pixelAt stride y u v row)) col xs)
 
 abbrev μ-loop : tie.MeasureT-loop
-μ-loop out₀ y u v stride row left n at first pairs i₀ out i = pairs - i
+μ-loop out₀ y u v stride row left n rv gu gv bu at col₀ out col = n - col
 
 mul-at : tie.Need-mul-at Inv-loop μ-loop
 mul-at c = omega arith
@@ -28,109 +31,91 @@ add-at : tie.Need-add-at Inv-loop μ-loop
 add-at c = omega arith
 
 even-head-requires : tie.Need-even-head-requires Inv-loop μ-loop
-even-head-requires c κs = search needs
-
-sub-pairs : tie.Need-sub-pairs Inv-loop μ-loop
-sub-pairs c = omega arith
+even-head-requires c κs =
+    (record { exact = search needs; inside = search needs; y-fits = search needs; u-fits = omega arith; v-fits = omega arith }, search needs)
 
 loop-holds : tie.Need-loop-holds Inv-loop μ-loop
-loop-holds c = (omega arith, refl, λ even xs e h. done-at _ _ _ _ h (omega arith))
+loop-holds c = (omega arith, λ lt. omega arith, omega arith, λ even xs e h. h)
 
-mul-j : tie.Need-mul-j Inv-loop μ-loop
-mul-j c = omega arith
+sub-least : tie.Need-sub-least Inv-loop μ-loop
+sub-least c = omega arith
 
-add-j : tie.Need-add-j Inv-loop μ-loop
-add-j c = omega arith
+least-requires : tie.Need-least-requires Inv-loop μ-loop
+least-requires c κs = search needs
 
 add-here : tie.Need-add-here Inv-loop μ-loop
 add-here c = omega arith
 
-add-next : tie.Need-add-next Inv-loop μ-loop
-add-next c = omega arith
+mul-even-part : tie.Need-mul-even-part Inv-loop μ-loop
+mul-even-part c = omega arith
 
-add-smooth : tie.Need-add-smooth Inv-loop μ-loop
-add-smooth c = omega arith
+add-even-part : tie.Need-add-even-part Inv-loop μ-loop
+add-even-part c = omega arith
 
-smooth-requires : tie.Need-smooth-requires Inv-loop μ-loop
-smooth-requires c κs = record { y-has = omega arith; u-has = omega arith; v-has = omega arith; u-below = omega arith; v-below = omega arith }
+mul-even-part-2 : tie.Need-mul-even-part-2 Inv-loop μ-loop
+mul-even-part-2 c = omega arith
 
-put-pixel-requires : tie.Need-put-pixel-requires Inv-loop μ-loop
-put-pixel-requires c κs = omega arith
+sub-even-part : tie.Need-sub-even-part Inv-loop μ-loop
+sub-even-part c = omega arith
 
-add-put-pixel : tie.Need-add-put-pixel Inv-loop μ-loop
-add-put-pixel c = omega arith
+part-even-part-start : tie.Need-part-even-part-start Inv-loop μ-loop
+part-even-part-start c = omega arith
 
-plain-requires : tie.Need-plain-requires Inv-loop μ-loop
-plain-requires c κs = record { y-has = omega arith; u-has = omega arith; v-has = omega arith }
+part-even-part-end : tie.Need-part-even-part-end Inv-loop μ-loop
+part-even-part-end c = omega arith
 
-put-pixel-requires-2 : tie.Need-put-pixel-requires-2 Inv-loop μ-loop
-put-pixel-requires-2 c κs = omega arith
+add-even-part-2 : tie.Need-add-even-part-2 Inv-loop μ-loop
+add-even-part-2 c = omega arith
 
-add-i : tie.Need-add-i Inv-loop μ-loop
-add-i c = omega arith
+even-part-requires : tie.Need-even-part-requires Inv-loop μ-loop
+even-part-requires c κs =
+    let m = c .before in
+    let l = m .before .before in
+    let pre = l .before .before .before .before .before .before .before .before .before .pre in
+    let even = l .loop .inv .1 (m .before .loop-test .taken) in
+    let long = part-long (l .loop .out) (4 * l .loop .col) (4 * (l .loop .col + m .least .result)) (omega arith) (omega arith) in (
+      record {
+        exact = omega arith;
+        few = omega arith;
+        y-has = omega arith;
+        u-has = omega arith;
+        v-has = omega arith;
+        u-below = omega arith;
+        v-below = omega arith;
+      },
+      pre .1 .1,
+    )
+
+add-col : tie.Need-add-col Inv-loop μ-loop
+add-col c = omega arith
 
 loop-less : tie.Need-loop-less Inv-loop μ-loop
 loop-less c = omega arith
 
 loop-again : tie.Need-loop-again Inv-loop μ-loop
 loop-again c =
-    let second = c .before .before in
-    let one = second .before .before .before .before .before in
-    let l = one .before .before .before .before in
-    let s = l .before .before .before .before .before .before .before .before .before in
-    let a = s .args in
-    let at = a .row * a .stride + a .left in
-    let j = a .left % 2 + 2 * l .loop .i in (
+    let p = c .before .before in
+    let m = p .before .before in
+    let l = m .before .before in
+    let col = l .loop .col in
+    let a = l .before .before .before .before .before .before .before .before .before .args in
+    let even-col = l .loop .inv .1 (m .before .loop-test .taken) in (
       omega arith,
+      λ lt. omega arith,
       omega arith,
-      λ even xs e b. pair-step (a .stride) (a .row) (a .left) (a .y .now) (a .u .now) (a .v .now) xs j (at + j) _ (l .loop .inv .2 even xs e b) (one .put-pixel .ensures) (second .put-pixel2 .ensures)
-          (omega arith) refl (omega arith) (omega arith) (omega arith) (one .before .smooth .ensures) (second .before .plain .ensures),
+      λ even xs e h. smooth-more (a .stride) (a .row) (a .left) (a .y .now) (a .u .now) (a .v .now) xs col (m .least .result) _ refl
+          (omega arith) (l .loop .inv .3 even xs e h) even even-col (p .even-part .ensures),
     )
-
-mul-end : tie.Need-mul-end Inv-loop μ-loop
-mul-end c = omega arith
-
-add-end : tie.Need-add-end Inv-loop μ-loop
-add-end c = omega arith
-
-add-here-2 : tie.Need-add-here-2 Inv-loop μ-loop
-add-here-2 c = omega arith
-
-add-smooth-2 : tie.Need-add-smooth-2 Inv-loop μ-loop
-add-smooth-2 c = omega arith
-
-smooth-requires-2 : tie.Need-smooth-requires-2 Inv-loop μ-loop
-smooth-requires-2 c κs = record { y-has = omega arith; u-has = omega arith; v-has = omega arith; u-below = omega arith; v-below = omega arith }
-
-put-pixel-requires-3 : tie.Need-put-pixel-requires-3 Inv-loop μ-loop
-put-pixel-requires-3 c κs = omega arith
 
 same-length : tie.Need-same-length Inv-loop μ-loop
 same-length c = omega arith
 
 returns : tie.Need-returns Inv-loop μ-loop
 returns c =
-    let last = c .before .before in
-    let l = last .before .before .before .before .before in
-    let h = l .before .before .before in
-    let s = h .before .before .before .before .before .before in
-    let a = s .args in
-    let at = a .row * a .stride + a .left in
-    let end = a .left % 2 + 2 * ((a .n - a .left % 2) / 2) in
-    λ even. even-step (a .stride) (a .row) (a .left) _ _ _ _ end (at + end) (end + 1)
-    (done-at _ _ _ end (l .loop .inv .2 even (a .out .now) (omega arith) (h .even-head .ensures)) (omega arith)) (last .put-pixel3 .ensures)
-    (omega arith) refl refl (omega arith) (omega arith) (last .before .smooth2 .ensures)
-    ∙ done-all _ _ (end + 1) (omega arith)
-
-same-length-2 : tie.Need-same-length-2 Inv-loop μ-loop
-same-length-2 c = omega arith
-
-returns-2 : tie.Need-returns-2 Inv-loop μ-loop
-returns-2 c =
-    let l = c .before .before in
+    let l = c .before in
     let h = l .before .before .before in
     let a = h .before .before .before .before .before .before .args in
-    λ even. l .loop .inv .2 even (a .out .now) (omega arith) (h .even-head .ensures) ∙ done-all _ _ (a .left % 2 + 2 * l .loop .i) (omega arith)
+    λ even. l .loop .inv .3 even (a .out .now) (omega arith) (h .even-head .ensures) ∙ done-all _ _ (l .loop .col) (omega arith)
 
 pub even-row-spec : {M : Type 1} → statement M
 even-row-spec =
@@ -141,28 +126,20 @@ even-row-spec =
     mul-at
     add-at
     even-head-requires
-    sub-pairs
     loop-holds
-    mul-j
-    add-j
+    sub-least
+    least-requires
     add-here
-    add-next
-    add-smooth
-    smooth-requires
-    put-pixel-requires
-    add-put-pixel
-    plain-requires
-    put-pixel-requires-2
-    add-i
+    mul-even-part
+    add-even-part
+    mul-even-part-2
+    sub-even-part
+    part-even-part-start
+    part-even-part-end
+    add-even-part-2
+    even-part-requires
+    add-col
     loop-less
     loop-again
-    mul-end
-    add-end
-    add-here-2
-    add-smooth-2
-    smooth-requires-2
-    put-pixel-requires-3
     same-length
-    returns
-    same-length-2
-    returns-2)
+    returns)

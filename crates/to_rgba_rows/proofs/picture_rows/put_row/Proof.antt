@@ -25,7 +25,7 @@ odd-row-requires : tie.Need-odd-row-requires
 odd-row-requires c κs =
     let a = c .before .before .before .before .before .before .args in
     let fits = row-in (a .stride) (a .rows) (a .row) (omega arith) in
-    record { exact = search needs; inside = search needs; y-fits = omega arith; u-fits = omega arith; v-fits = omega arith }
+    (record { exact = search needs; inside = search needs; y-fits = omega arith; u-fits = omega arith; v-fits = omega arith }, search needs)
 
 same-length : tie.Need-same-length
 same-length c = search needs
