@@ -77,16 +77,29 @@ def read_edit(path, label):
 
 
 def function_of(crate, file, old):
-    """The function that a text of src/ stands in, as proofs/ has its path."""
+    """The function that a text of src/ stands in, as proofs/ has its path. For a text of a constant it is the one that names the constant."""
     text = open(os.path.join(crate, file), encoding='utf-8').read()
     at = text.find(old)
-    before = [m for m in re.finditer(r'^( *)(?:pub )?(?:extern "C" )?fn (\w+)', text, re.M) if m.start() <= at + len(old)]
+    items = r'^( *)(?:pub )?(?:extern "C" )?(fn|const) (\w+)'
+    before = [m for m in re.finditer(items, text, re.M) if m.start() <= at + len(old)]
     if at < 0 or not before:
         return None
     last = before[-1]
+    if last[2] == 'const':
+        return function_naming(crate, last[3])
     module = [] if os.path.basename(file) in ('lib.rt', 'main.rt') else [os.path.basename(file)[:-3]]
     owner = [m[1] for m in re.finditer(r'^impl (\w+)', text[:last.start()], re.M)][-1:] if last[1] else []
-    return '/'.join(module + owner + [last[2]])
+    return '/'.join(module + owner + [last[3]])
+
+
+def function_naming(crate, constant):
+    """The function that names a constant, if there is just one such line in the crate."""
+    lines = []
+    for path in sorted(glob.glob(os.path.join(crate, 'src', '*.rt'))):
+        file = os.path.relpath(path, crate)
+        uses = re.findall(r'^(?!.*\bconst ).*\b' + constant + r'\b.*$', open(path, encoding='utf-8').read(), re.M)
+        lines += [(file, line) for line in uses if not line.lstrip().startswith('//')]
+    return function_of(crate, *lines[0]) if len(lines) == 1 else None
 
 
 def refusals(log, crate_name):
@@ -178,7 +191,7 @@ def counted(root, every):
     return [] if sentence in open(readme, encoding='utf-8').read() else [f'README.md does not say "{sentence}"']
 
 
-# ---- the self-test: a crate of three small functions, one of them with a proof and a law
+# ---- the self-test: a crate of small functions
 
 CRATE = {
     'crates.txt': 'small:\n',
@@ -205,6 +218,14 @@ pub fn second(s: &[u8]) -> u8
 {
     s[1]
 }
+
+const NINE: u64 = 9;
+
+pub fn nine() -> u64
+    ensures { λ r. ⌜ r ≡ 9 ⌝ }
+{
+    NINE
+}
 ''',
 }
 
@@ -217,6 +238,7 @@ def text_of(*wrongs):
 LEAST = ('greatest', 'the smaller of the two', 'least returns', '    if a < b { a } else { b }', '    if a < b { b } else { a }')
 NEXT = ('same', 'one more', 'next returns', '    a + 1', '    a + 0')
 SECOND = ('first', 'the second byte', 'second returns', '    s[1]', '    s[0]')
+EIGHT = ('eight', 'nine', 'nine returns', 'const NINE: u64 = 9;', 'const NINE: u64 = 8;')
 CASES = {  # the edit, and what has to be said of it; nothing where it is as it should be
     'all_wrong': (text_of(LEAST, NEXT, SECOND), None),
     'one_is_right': (text_of(LEAST, NEXT[:4] + ('    1 + a',), SECOND), 'same: not refused at next returns'),
@@ -224,6 +246,8 @@ CASES = {  # the edit, and what has to be said of it; nothing where it is as it 
     'need_that_holds': (text_of(LEAST[:2] + ('least returns-3',) + LEAST[3:], NEXT), 'not refused at least returns-3'),
     'index_only': (text_of(SECOND[:2] + ('second shared-slice-read-result',) + ('    s[1]', '    s[2]')), 'shows no fact'),
     'another_function': (text_of(LEAST[:2] + ('next returns',) + LEAST[3:]), 'promised at next'),
+    'a_constant': (text_of(EIGHT, NEXT), None),
+    'a_constant_of_another': (text_of(EIGHT[:2] + ('next returns',) + EIGHT[3:]), 'changes nine and is promised at next'),
     'no_comment': ('file: src/lib.rt\nold: {}\nnew: {}\n'.format(*LEAST[3:]), 'without a word'),
     'twice_one_function': (text_of(NEXT, ('none', 'one more', 'next returns', 'pub fn next(a: u64)', 'pub fn next(b: u64)')), 'as same does'),
 }
