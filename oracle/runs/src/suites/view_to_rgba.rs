@@ -19,7 +19,8 @@ use crate::run::Run;
 pub const SUITE: Suite = Suite {
     name: "view_to_rgba",
     about: "systematic: widths and heights to 33, strides from width - 1 to width + 3, and padded to 16; the output exact, a byte
-short and longer; every plane a byte short, exact or longer, with an output that is exact and one a byte short
+short and longer; every plane a byte short, exact or longer, with an output that is exact and one a byte short; widths from 62
+to 66 and from 126 to 130, heights to 5, both padded to 16 and not
 random: larger views, to 65,535 wide or high",
     run: all_views,
     replay,
@@ -85,15 +86,27 @@ fn all_views(run: &mut Run) {
     }
     for width in 0..=33 {
         for height in 0..=33 {
-            let padded = Sizes::padded(width, height);
-            let cropped = padded.cropped(padded.width - width, padded.height - height);
-            Case::new(&source, cropped).check(run, &[0, 1, 2]);
+            Case::new(&source, cropped(width, height)).check(run, &[0, 1, 2]);
+        }
+    }
+    // A row is written in parts of 64 pixels, and two rows at a time.
+    for width in (62..=66).chain(126..=130) {
+        for height in 1..=5 {
+            for sizes in [Sizes::tight(width, height), cropped(width, height)] {
+                Case::new(&source, sizes).check(run, &[0, 1, 2]);
+            }
         }
     }
     while run.more() {
         let sizes = views::anyhow(&mut run.random);
         Case::new(&source, sizes).check(run, &[0, 1, 2]);
     }
+}
+
+/// A view whose planes are padded to whole macroblocks.
+fn cropped(width: u16, height: u16) -> Sizes {
+    let padded = Sizes::padded(width, height);
+    padded.cropped(padded.width - width, padded.height - height)
 }
 
 pub const BENCH: Bench = Bench {
@@ -110,6 +123,13 @@ pub const SMOOTH_BENCH: Bench = Bench {
     over: Over::Frames(|width, height| sides(Look::Smooth, width, height)),
 };
 
+pub const SMALL_BENCH: Bench = Bench {
+    name: "view_to_rgba_small",
+    input: "16x16, smooth, strides the widths; the original allocates its answer",
+    bound: None,
+    over: Over::One(|| repeated(200, Look::Smooth, 16, 16)),
+};
+
 pub const SCALE: Weighing = Weighing {
     name: "view_to_rgba",
     input: SCALES,
@@ -118,8 +138,12 @@ pub const SCALE: Weighing = Weighing {
 };
 
 fn sides(look: Look, width: u16, height: u16) -> Sides {
+    repeated(2, look, width, height)
+}
+
+fn repeated(calls: u64, look: Look, width: u16, height: u16) -> Sides {
     let frame = original_of(look.view(width, height).view()).0.expect("the planes are exact");
-    Sides::repeated(2, pass(look, width, height), move || their_sum(black_box(&frame)))
+    Sides::repeated(calls, pass(look, width, height), move || their_sum(black_box(&frame)))
 }
 
 /// A call of ours, which answers the number, the count and a sum of bytes.

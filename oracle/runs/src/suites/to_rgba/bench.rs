@@ -24,6 +24,19 @@ pub const SMOOTH_BENCH: Bench = Bench {
     over: Over::Frames(|width, height| sides(Look::Smooth, width, height)),
 };
 
+pub const SMALL_BENCH: Bench = Bench {
+    name: "to_rgba_small",
+    input: "1920x1080, a rectangle of 16x16, smooth; the original allocates its answer",
+    bound: None,
+    over: Over::One(|| {
+        let size = Size { width: 1920, height: 1080 };
+        let rect = [960, 544, 976, 560];
+        let picture = original_of(Look::Smooth, size);
+        let theirs = lists::original_of(rect);
+        Sides::repeated(200, pass(Look::Smooth, size, rect, FAR), move || their_sum(black_box(&picture), &theirs))
+    }),
+};
+
 pub const ODD_EDGES: Weighing = Weighing {
     name: "to_rgba",
     input: "1920x1080: columns 1 to below 1918 against 0 to below 1918",
@@ -54,9 +67,13 @@ const FAR: usize = 1 << 17;
 fn sides(look: Look, width: u16, height: u16) -> Sides {
     let size = Size { width, height };
     let whole = lists::whole(size);
-    let picture = probe::with_planes(width, height, look.planes(width, height).each_ref().map(Vec::as_slice));
+    let picture = original_of(look, size);
     let rect = lists::original_of(whole);
     Sides::repeated(2, pass(look, size, whole, FAR), move || their_sum(black_box(&picture), &rect))
+}
+
+fn original_of(look: Look, Size { width, height }: Size) -> Yuv444Frame {
+    probe::with_planes(width, height, look.planes(width, height).each_ref().map(Vec::as_slice))
 }
 
 fn whole(width: u16, height: u16, gap: usize) -> Pass {

@@ -16,13 +16,14 @@ use crate::outcome::{Lent, Outcome};
 use crate::random::Random;
 use crate::run::Run;
 
-pub use self::bench::{BENCH, ODD_EDGES, PLACES, SCALE, SMOOTH_BENCH};
+pub use self::bench::{BENCH, ODD_EDGES, PLACES, SCALE, SMALL_BENCH, SMOOTH_BENCH};
 
 pub const SUITE: Suite = Suite {
     name: "to_rgba",
     about: "systematic: widths and heights to 33, with left and top from 0 to 3, right and bottom from 3 before the edge to 1
 past it, and 23 rectangles that are empty, reversed or off the picture; the output exact, and a byte short or longer;
-each buffer a byte short, exact or longer; 65,535x1 and 1x65,535
+each buffer a byte short, exact or longer; 65,535x1 and 1x65,535; rectangles of 62 to 66 and of 126 to 130 columns from each
+column from 0 to 66 on, at two rows and at three
 random: sizes to 4,096, any rectangle",
     run: all_pictures,
     replay,
@@ -111,6 +112,7 @@ fn all_pictures(run: &mut Run) {
             case.check(run, rect, 1);
         }
     }
+    part_borders(run, &noise);
     while run.more() {
         let sizes = random_sizes(&mut run.random);
         let place = run.random.between(0, 999_999);
@@ -118,6 +120,19 @@ fn all_pictures(run: &mut Run) {
         for way in [1, 2] {
             let rect = lists::any_rect(&mut run.random, sizes.size);
             case.check(run, rect, way);
+        }
+    }
+}
+
+/// A row is written in parts of 64 pixels: rectangles that end a few columns before and behind the border of a part, from even and odd
+/// columns on.
+fn part_borders(run: &mut Run, noise: &Noise) {
+    let case = Case::new(noise, Sizes::exact(200, 4), 7);
+    for columns in (62..=66).chain(126..=130) {
+        for left in 0..=66 {
+            for (top, bottom) in [(0, 3), (1, 3)] {
+                case.check(run, [left, top, left + columns, bottom], 1);
+            }
         }
     }
 }
