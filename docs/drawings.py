@@ -161,6 +161,24 @@ def filtered_of(a, s):
     return a if abs(reversed_of(a, s) - a) < 30 else reversed_of(a, s)
 
 
+# --- The rules: colour/specs/Products.antt.
+
+def red_product(v):
+    return 403 * (v - 128)
+
+
+def green_u_product(u):
+    return -48 * (u - 128)
+
+
+def green_v_product(v):
+    return -120 * (v - 128)
+
+
+def blue_product(u):
+    return 475 * (u - 128)
+
+
 # --- The pen: each call answers a piece of SVG.
 
 def said_of(more):
@@ -614,10 +632,41 @@ def draw_filter():
     return picture(496, 'The reverse filter of a 2x2 block', said, out)
 
 
+# --- products.svg: what each chroma byte adds to a channel.
+
+PRODUCTS = [('403v, to red', red_product, RED, 3, ''), ('475u, to blue', blue_product, BLUE, 3, ''),
+            ('-120v, to green', green_v_product, GREEN, 3, '8 5'), ('-48u, to green', green_u_product, GREEN, 3, '2 4')]
+
+
+def draw_products():
+    left, middle, across, up = 90, 320, 2.5, 1.0
+
+    def place(chroma, product):
+        return f'{left + chroma * across:.5g} {middle - product / 256 * up:.5g}'
+
+    out = []
+    for share in range(-200, 201, 50):
+        y = middle - share * up
+        out.append(path(f'M{left - 5} {y:g}H{left + 255 * across:g}', INK if share == 0 else '#cccccc', 1 if share == 0 else 0.8,
+                        **({} if share == 0 else {'stroke_dasharray': '2 3'})))
+        out.append(text(left - 9, y + 4, share, 11, 'end'))
+    for chroma in (0, 32, 64, 96, 128, 160, 192, 224, 255):
+        x = left + chroma * across
+        out.append(path(f'M{x:g} {middle - 245 * up:g}V{middle + 245 * up:g}', '#eeeeee') + text(x, middle + 262 * up, chroma, 11, 'middle'))
+    for i, (words, product, colour, thick, dashes) in enumerate(PRODUCTS):
+        more = {'stroke_dasharray': dashes} if dashes else {}
+        out.append(path(f'M{place(0, product(0))}L{place(255, product(255))}', colour, thick, **more))
+        out.append(path(f'M{left + 660} {110 + 26 * i}h34', colour, thick, **more) + text(left + 702, 114 + 26 * i, words, 12))
+    out += [text(left + 127 * across, middle + 284 * up, 'the chroma byte, V or U', 12, 'middle'),
+            text(left, 60, 'product / 256: what it adds to Y', 12)]
+    ends = '; '.join(f'{words}: from {product(0)} to {product(255)}' for words, product, *_ in PRODUCTS)
+    return picture(620, 'The four products over the chroma byte', f'Straight lines through 0 at the chroma byte 128. {ends}.', out)
+
+
 # --- The files.
 
 DRAWINGS = {'v1.svg': lambda: draw_layout(V1), 'v2.svg': lambda: draw_layout(V2), 'widening.svg': draw_widening,
-            'payload.svg': draw_payload, 'filter.svg': draw_filter}
+            'payload.svg': draw_payload, 'filter.svg': draw_filter, 'products.svg': draw_products}
 
 
 def main():
