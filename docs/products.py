@@ -31,9 +31,12 @@ def read_tables():
     if list(tables) != list(FACTORS):
         sys.exit(f'products.py: the source has the tables {", ".join(tables)}')
     for name, entries in tables.items():
-        wrong = [chroma for chroma, entry in enumerate(entries) if entry != FACTORS[name] * (chroma - 128)]
-        if len(entries) != 256 or wrong:
-            sys.exit(f'products.py: {name} has {len(entries)} entries, not the product at {wrong}')
+        if len(entries) != 256:
+            sys.exit(f'products.py: {name} has {len(entries)} entries, and there are 256 chroma bytes')
+        for chroma, entry in enumerate(entries):
+            product = FACTORS[name] * (chroma - 128)
+            if entry != product:
+                sys.exit(f'products.py: {name}: at the chroma byte {chroma} stands {entry}, and {FACTORS[name]} x ({chroma} - 128) is {product}')
     return tables
 
 
