@@ -12,6 +12,7 @@ pub mod ByPart
 pub mod ManyRows
 pub mod PartRows
 pub mod Lists
+pub mod Counts
 pub mod Samples
 pub mod Pixels
 pub mod Refusal

@@ -5,3 +5,4 @@ pub mod Pixels
 pub mod Sizes
 pub mod Refusal
 pub mod Outcome
+pub mod Counts
