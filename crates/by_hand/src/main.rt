@@ -13,7 +13,7 @@ fn wide(x: u8) -> u64
     x as u64
 }
 
-// A line `filter a s t`: the sum s is that of the samples p, q and r.
+// A line `filter a s t applied` or `filter a s t kept`: the sum s is that of the samples p, q and r.
 fn filter(a: u8, p: u8, q: u8, r: u8) {
     io::write_all(STDOUT_FILENO, b"filter ");
     io::print_decimal(STDOUT_FILENO, wide(a));
@@ -21,11 +21,13 @@ fn filter(a: u8, p: u8, q: u8, r: u8) {
     io::print_decimal(STDOUT_FILENO, wide(p) + wide(q) + wide(r));
     io::write_all(STDOUT_FILENO, b" ");
     let samples = [a, p, q, r];
-    io::print_decimal(
-        STDOUT_FILENO,
-        wide(colour::filter(colour::Block { samples })),
-    );
-    io::write_all(STDOUT_FILENO, b"\n");
+    let undone = colour::filter(colour::Block { samples });
+    io::print_decimal(STDOUT_FILENO, wide(undone.value));
+    if undone.applied {
+        io::write_all(STDOUT_FILENO, b" applied\n");
+    } else {
+        io::write_all(STDOUT_FILENO, b" kept\n");
+    }
 }
 
 // The bytes of s in hexadecimal, each with a space in front.
@@ -220,6 +222,7 @@ fn main() {
     filter(30, 40, 40, 40);
     filter(225, 100, 100, 100);
     filter(226, 100, 100, 100);
+    filter(90, 90, 90, 90);
     let line = [0u8, 0, 0, 2, 0x67, 0x42];
     unit(&line);
     first_unit(256);

@@ -1,10 +1,13 @@
--- The filter's rule, in natural numbers. Assumes nothing.
-use mathlib.Core.Path.{_≡_, _∙_, sym}
+-- The filter's rule, in natural numbers, and when it is applied. Assumes nothing.
+use mathlib.Core.Path.{_≡_, refl, _∙_, sym}
+use mathlib.Core.Bool.{Bool, true, false, cond, not, false≢true}
+use mathlib.Core.Logic.{_↔_}
 use Prim.Native.Nat.{ℕ, _+_, _*_, _-_, _≤_, _<_, min}
 use native.Mathlib.Omega.{arith}
-use borrow.Author.Tests.{lt-ltb, le-ltb}
+use lib.Dec.{ltb}
+use borrow.Author.Tests.{lt-ltb, le-ltb, ltb-false}
 use Rattle.colour.specs.Whole.{distance}
-use Rattle.colour.specs.Colour.{reversed, filteredOf}
+use Rattle.colour.specs.Colour.{reversed, filteredOf, appliedOf, undoneOf}
 use Rattle.colour.proofs.Whole.{wholes}
 
 pub reversed-is : (a s : ℕ) → reversed a s ≡ min (4 * a - s) 255
@@ -25,3 +28,30 @@ module _ (a s t : ℕ) (e : t ≡ min (4 * a - s) 255) where
   pub far : 30 ≤ (t - a) + (a - t) → filteredOf a s ≡ t
   unfolding filteredOf
   far h = rw (← same, le-ltb (distance t a) 30 (omega (arith, distance-is t a)))
+
+  -- the filter's two answers
+  pub kept : (t - a) + (a - t) < 30 → record { value = a; applied = false } ≡ undoneOf a s
+  unfolding appliedOf
+  kept h =
+      let no : false ≡ not (ltb (distance (reversed a s) a) 30) = rw (← same, lt-ltb (distance t a) 30 (omega (arith, distance-is t a))) refl in
+      λ i. record { value = sym (near h) i; applied = no i }
+
+  pub replaced : 30 ≤ (t - a) + (a - t) → record { value = t; applied = true } ≡ undoneOf a s
+  unfolding appliedOf
+  replaced h =
+      let yes : true ≡ not (ltb (distance (reversed a s) a) 30) = rw (← same, le-ltb (distance t a) 30 (omega (arith, distance-is t a))) refl in
+      λ i. record { value = sym (far h) i; applied = yes i }
+
+-- applied exactly where the answer is another one than the average: t is the average undone, and d whether it is near a
+by-distance : (a t : ℕ) (d : Bool) → ltb (distance t a) 30 ≡ d → (not d ≡ true) ↔ (cond d a t ≡ a → ⊥)
+by-distance a t true e = (λ h. absurd (false≢true h), λ n. absurd (n refl))
+by-distance a t false e = (λ h is. omega (arith, is, ltb-false (distance t a) 30 e, distance-is t a), λ n. refl)
+
+pub applied-exactly : (a s : ℕ) → (appliedOf a s ≡ true) ↔ (filteredOf a s ≡ a → ⊥)
+unfolding appliedOf filteredOf
+applied-exactly a s = by-distance a (reversed a s) _ refl
+
+-- "A kept average counts as not applied even where t equals a"
+pub equal-not-applied : (a s : ℕ) → reversed a s ≡ a → appliedOf a s ≡ false
+unfolding appliedOf
+equal-not-applied a s e = rw (lt-ltb (distance (reversed a s) a) 30 (omega (arith, e, distance-is (reversed a s) a))) refl

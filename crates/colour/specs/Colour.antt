@@ -5,13 +5,15 @@
 --   reverseOf y u v   the pixel of Y, U and V
 --   averageOf s       the average of a block
 --   filterOf s        the reverse filter of a block; filteredOf a s: of its first sample a and the sum s of the others
-use mathlib.Core.Bool.{cond}
+--   appliedIn s       whether it was applied, appliedOf a s; undoneIn s, undoneOf a s: both as the filter's answer
+use mathlib.Core.Bool.{Bool, cond, not}
 use mathlib.Core.List.{List, [], _∷_}
 use Prim.Native.Nat.{ℕ, _+_, _/_}
 use lib.Dec.{ltb}
 use lib.IntN.{ℤ, pos, negℤ, _+ℤ_, _-ℤ_, _*ℤ_}
 use lib.ListN.{getD}
 use Rattle.colour.specs.Whole.{_÷_, clamp, distance}
+use Rattle.colour.specs.declared.Undone.{Undone}
 use Rattle.colour.specs.declared.Yuv.{Yuv}
 
 -- "Forward: Y = (54R+183G+18B)/256"
@@ -74,3 +76,17 @@ filteredOf a s = cond (ltb (distance (reversed a s) a) 30) a (reversed a s)
 -- "With a the even-even sample and s the sum of the other three"
 abbrev pub filterOf : List ℕ → ℕ
 filterOf s = filteredOf (getD s 0 0) (getD s 1 0 + getD s 2 0 + getD s 3 0)
+
+-- "A kept average counts as not applied even where t equals a"
+unfoldable pub appliedOf : ℕ → ℕ → Bool
+appliedOf a s = not (ltb (distance (reversed a s) a) 30)
+
+abbrev pub appliedIn : List ℕ → Bool
+appliedIn s = appliedOf (getD s 0 0) (getD s 1 0 + getD s 2 0 + getD s 3 0)
+
+-- "The filter's answer becomes the value and whether it was applied"
+abbrev pub undoneOf : ℕ → ℕ → Undone
+undoneOf a s = record { value = filteredOf a s; applied = appliedOf a s }
+
+abbrev pub undoneIn : List ℕ → Undone
+undoneIn s = record { value = filterOf s; applied = appliedIn s }

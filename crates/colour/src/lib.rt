@@ -10,7 +10,7 @@ ghost use Prim.Native.Nat.{_+_, _*_, _-_, _/_, _<_, min};
 ghost use lib.ListN.{getD};
 ghost use lib.Signed.{mag};
 ghost use Rattle.colour.specs.Whole.{_÷_};
-ghost use Rattle.colour.specs.Colour.{forwardOf, reverseOf, averageOf, filteredOf, filterOf};
+ghost use Rattle.colour.specs.Colour.{forwardOf, reverseOf, averageOf, undoneOf, undoneIn};
 ghost use Rattle.colour.specs.Products.{
   redV,
   greenU,
@@ -40,6 +40,13 @@ pub type Table = [i32; 256];
 // The four chroma samples of a 2x2 block: the even-even one, then right, below, diagonal.
 pub struct Block {
     pub samples: [u8; 4],
+}
+
+// What the filter answers: the value, and whether it was applied.
+#[repr(C)]
+pub struct Undone {
+    pub value: u8,
+    pub applied: bool,
 }
 
 fn wide(x: u8) -> u16
@@ -221,11 +228,20 @@ fn abs_diff(a: u8, b: u8) -> u8
 }
 
 // a where undoing the average changes it by less than 30, else the change made: s is the sum of the other samples.
-fn filtered(a: u8, s: u16) -> u8
-    ensures { λ r. ⌜ r ≡ filteredOf a s ⌝ }
+fn filtered(a: u8, s: u16) -> Undone
+    ensures { λ r. ⌜ r ≡ undoneOf a s ⌝ }
 {
     let t = fit(4 * wide(a), s);
-    if abs_diff(t, a) < 30 { a } else { t }
+    if abs_diff(t, a) < 30 {
+        return Undone {
+            value: a,
+            applied: false,
+        };
+    }
+    Undone {
+        value: t,
+        applied: true,
+    }
 }
 
 // The sum of a block's samples but the even-even one.
@@ -238,9 +254,10 @@ fn others(b: Block) -> u16
     p + q + r
 }
 
-// The even-even sample of a block as it was before it was averaged. Ports `reverse_filter`.
-pub fn filter(b: Block) -> u8
-    ensures { λ r. ⌜ r ≡ filterOf (b .samples) ⌝ }
+// The even-even sample of a block as it was before it was averaged, and whether that is another one than it has now. Ports
+// `reverse_filter`, which answers the value alone.
+pub fn filter(b: Block) -> Undone
+    ensures { λ r. ⌜ r ≡ undoneIn (b .samples) ⌝ }
 {
     let s = others(b);
     filtered(b.samples[0], s)

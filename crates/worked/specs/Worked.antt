@@ -5,11 +5,12 @@
 --   All ls   each line of ls is right
 --   firstRows n cs   of 16 rows, the first n take the columns cs and the others none
 -- A further kind of line is a constructor of Line, a clause of Right and its lines in the table.
+use mathlib.Core.Bool.{Bool, true, false}
 use mathlib.Core.List.{List, [], _∷_, _++_}
 use mathlib.Core.Path.{_≡_}
 use Prim.Native.Nat.{ℕ, _-_}
 use lib.ListN.{replicate}
-use Rattle.colour.specs.Colour.{forwardOf, reverseOf, filteredOf}
+use Rattle.colour.specs.Colour.{forwardOf, reverseOf, undoneOf}
 use Rattle.picture.specs.declared.Size.{Size}
 use Rattle.view.specs.declared.View.{View}
 use Rattle.apply_main.specs.Main.{mainLuma, mainChroma}
@@ -18,8 +19,8 @@ use Rattle.apply_main.specs.Columns.{columnsTaken}
 pub data Line : Type 0 where
   -- "Colour, forward and back": r g b, then the y u v that it gives, then the r g b that this gives back
   colour : ℕ → ℕ → ℕ → ℕ → ℕ → ℕ → ℕ → ℕ → ℕ → Line
-  -- "Filter (a, s)": a and s, then the answer
-  filter : ℕ → ℕ → ℕ → Line
+  -- "Filter (a, s)": a and s, then the answer's value, and whether it was applied
+  filter : ℕ → ℕ → ℕ → Bool → Line
   -- "Rectangles, 5x5 picture, 16x16 view": left, top, right, bottom, then the luma columns that each of the 16 rows takes from a main
   -- view, and the chroma columns
   rectangle : ℕ → ℕ → ℕ → ℕ → List (List ℕ) → List (List ℕ) → Line
@@ -35,7 +36,7 @@ view16 = record { width = 16; height = 16; «luma_stride» = 16; «chroma_stride
 
 abbrev pub Right : Line → Type 0
 Right (colour r g b y u v r′ g′ b′) = (forwardOf r g b ≡ record { y = y; u = u; v = v }) × (reverseOf y u v ≡ r′ ∷ g′ ∷ b′ ∷ 255 ∷ [])
-Right (filter a s t) = filteredOf a s ≡ t
+Right (filter a s t applied) = undoneOf a s ≡ record { value = t; applied = applied }
 Right (rectangle left top right bottom luma chroma) =
     (columnsTaken 16 16 (mainLuma size5 view16 left top right bottom) ≡ luma)
     × (columnsTaken 16 16 (mainChroma size5 view16 left top right bottom) ≡ chroma)
@@ -52,12 +53,12 @@ worked =
     ∷ colour 255 0 0 53 99 255 252 0 0
     ∷ colour 0 255 0 182 29 12 0 254 0
     ∷ colour 0 0 255 17 255 116 0 0 252
-    -- the filter
-    ∷ filter 100 329 100
-    ∷ filter 100 330 70
-    ∷ filter 100 271 100
-    ∷ filter 100 270 130
-    ∷ filter 20 180 20
+    -- the filter: two edges, each with what is just kept and what is just replaced, and a t that is clamped and kept
+    ∷ filter 100 329 100 false
+    ∷ filter 100 330 70 true
+    ∷ filter 100 271 100 false
+    ∷ filter 100 270 130 true
+    ∷ filter 20 180 20 false
     -- the rectangles: chroma columns 4 and 5 and no luma; nothing; luma columns 3 to 5, chroma 2 to 5
     ∷ rectangle 5 0 5 4 (firstRows 0 []) (firstRows 4 (4 ∷ 5 ∷ []))
     ∷ rectangle 4 0 4 4 (firstRows 0 []) (firstRows 0 [])

@@ -2,7 +2,7 @@
 use mathlib.Core.Path.{ap, _∙_}
 use lib.ListN.{getD}
 use borrow.Author.Needs.{needs}
-use Rattle.colour.specs.Colour.{filteredOf}
+use Rattle.colour.specs.Colour.{undoneOf}
 use Rattle.colour.proofs.filter.Statement.{statement}
 use Rattle.colour.proofs.filter.Tie as tie
 
@@ -18,7 +18,7 @@ filtered-requires c κs = search needs
 returns : tie.Need-returns
 returns c =
     let b = c .before .before .before .args .t1 in
-    c .filtered .ensures ∙ ap (filteredOf (getD (b .samples) 0 0)) (c .before .before .others .ensures)
+    c .filtered .ensures ∙ ap (undoneOf (getD (b .samples) 0 0)) (c .before .before .others .ensures)
 
 pub filter-spec : {M : Type 1} → statement M
 filter-spec = tie.close (tie.spec others-requires element-copy-out-filtered filtered-requires returns)

@@ -1,8 +1,7 @@
--- The two answers are the two cases of the rule: a change below 30 is not made (`near`), any other is (`far`). Assumes nothing.
-use mathlib.Core.Path.{sym}
+-- The two answers are the two cases of the rule: a change below 30 is not made (`kept`), any other is (`replaced`). Assumes nothing.
 use native.Mathlib.Omega.{arith}
 use borrow.Author.Needs.{needs}
-use Rattle.colour.proofs.Filtering.{near, far}
+use Rattle.colour.proofs.Filtering.{kept, replaced}
 use Rattle.colour.proofs.filtered.Statement.{statement}
 use Rattle.colour.proofs.filtered.Tie as tie
 
@@ -21,12 +20,12 @@ abs-diff-requires c κs = search needs
 returns : tie.Need-returns
 returns c =
     let a = c .before .before .before .before .args in
-    sym (near (a .a) (a .s) (c .before .before .fit .result) (omega arith) (omega arith))
+    kept (a .a) (a .s) (c .before .before .fit .result) (omega arith) (omega arith)
 
 returns-2 : tie.Need-returns-2
 returns-2 c =
     let a = c .before .before .before .before .args in
-    sym (far (a .a) (a .s) (c .before .before .fit .result) (omega arith) (omega arith))
+    replaced (a .a) (a .s) (c .before .before .fit .result) (omega arith) (omega arith)
 
 pub filtered-spec : {M : Type 1} → statement M
 filtered-spec =
