@@ -46,17 +46,19 @@ module _ (p : List ℕ) (at below k : ℕ) where
   unfolding smoothFrom
   smooth-odd odd = cond-false _ _ _ (never-true (eqb (k % 2) 0) (λ e. omega (arith, eqb-true (k % 2) 0 e)))
 
--- the two columns from `at` + k on, of which the words m and n hold the upper and the lower row's bytes
-pub two-smoothed : (p : List ℕ) (at below k m n r : ℕ) → k % 2 ≡ 0
-    → (m % 256 ≡ getD p (at + k) 0) × (m / 256 ≡ getD p (at + k + 1) 0)
-    → (n % 256 ≡ getD p (below + k) 0) × (n / 256 ≡ getD p (below + k + 1) 0)
-    → (r % 256 ≡ filterOf (m % 256 ∷ m / 256 ∷ n % 256 ∷ n / 256 ∷ [])) × (r / 256 ≡ m / 256)
-    → (r % 256 ≡ smoothFrom p at below k) × (r / 256 ≡ smoothFrom p at below (k + 1))
-two-smoothed p at below k m n r even up low is =
-    let next : at + k + 1 ≡ at + (k + 1) = omega arith in (
-      is .0 ∙ (λ i. filterOf (up .0 i ∷ up .1 i ∷ low .0 i ∷ low .1 i ∷ [])) ∙ sym (smooth-even p at below k even),
-      is .1 ∙ up .1 ∙ ap (λ (j : ℕ). getD p j 0) next ∙ sym (smooth-odd p at below (k + 1) (omega arith)),
-    )
+-- a block from the words m and n, which hold its upper and its lower row
+pub corners-words : (p : List ℕ) (at below m n : ℕ)
+    → (m % 256 ≡ getD p at 0) × (m / 256 ≡ getD p (at + 1) 0)
+    → (n % 256 ≡ getD p below 0) × (n / 256 ≡ getD p (below + 1) 0)
+    → m % 256 ∷ m / 256 ∷ n % 256 ∷ n / 256 ∷ [] ≡ cornersAt p at below
+corners-words p at below m n up low = λ i. up .0 i ∷ up .1 i ∷ low .0 i ∷ low .1 i ∷ []
+
+-- the two columns of a block's upper row
+pub two-smoothed : (p : List ℕ) (at below k : ℕ) → k % 2 ≡ 0
+    → (filterOf (cornersAt p (at + k) (below + k)) ≡ smoothFrom p at below k) × (getD p (at + k + 1) 0 ≡ smoothFrom p at below (k + 1))
+two-smoothed p at below k even =
+    let next : at + k + 1 ≡ at + (k + 1) = omega arith in
+    (sym (smooth-even p at below k even), ap (λ (j : ℕ). getD p j 0) next ∙ sym (smooth-odd p at below (k + 1) (omega arith)))
 
 -- what is read of an array that holds the first n of them
 smooth-read : (p z : List ℕ) {q : List ℕ} (at below n k : ℕ) → n ≤ length z → q ≡ paint (λ j. ltb j n) (smoothFrom p at below) z → k < n

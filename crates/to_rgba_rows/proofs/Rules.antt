@@ -13,7 +13,7 @@ use Rattle.colour.specs.Colour.{reverseOf, filterOf}
 use Rattle.lent.specs.Samples.{sample}
 use Rattle.lent.proofs.Cells.{row-in}
 use Rattle.lent.proofs.Bools.{never-true, both, both-left, both-right}
-use Rattle.to_rgba_rows.specs.Rules.{cornersAt, chromaAt, pixelAt}
+use Rattle.to_rgba_rows.specs.Rules.{blockOf, cornersAt, chromaAt, pixelAt}
 
 next-row : (stride row : ℕ) → (row + 1) * stride ≡ row * stride + stride
 next-row stride row = ap (λ (n : ℕ). n * stride) (add-one row) ∙ suc-mul row stride
@@ -29,16 +29,22 @@ module _ (stride row col at : ℕ) (here : at ≡ row * stride + col) where
     unfolding pixelAt sample
     plain-pixel y u v = λ t. reverseOf (getD y (here t) 0) (plain-chroma u t) (plain-chroma v t)
 
+  -- the block of a sample, by the places of its corners
+  pub corners-block : (p : List ℕ) → cornersAt p at (at + stride) ≡ blockOf p stride row col
+  unfolding sample
+  corners-block p =
+      let b : at + 1 ≡ row * stride + (col + 1) = omega arith in
+      let c : at + stride ≡ (row + 1) * stride + col = omega (arith, next-row stride row) in
+      let d : at + stride + 1 ≡ (row + 1) * stride + (col + 1) = omega (arith, next-row stride row) in
+      λ t. getD p (here t) 0 ∷ getD p (b t) 0 ∷ getD p (c t) 0 ∷ getD p (d t) 0 ∷ []
+
   -- an even row and an even column
   module _ (even-row : row % 2 ≡ 0) (even-col : col % 2 ≡ 0) where
     smooth-chroma : (p : List ℕ) → filterOf (cornersAt p at (at + stride)) ≡ chromaAt p stride row col
-    unfolding chromaAt sample
+    unfolding chromaAt
     smooth-chroma p =
         let on : (eqb (row % 2) 0 && eqb (col % 2) 0) ≡ true = both _ _ (eq-eqb (row % 2) 0 even-row) (eq-eqb (col % 2) 0 even-col) in
-        let b : at + 1 ≡ row * stride + (col + 1) = omega arith in
-        let c : at + stride ≡ (row + 1) * stride + col = omega (arith, next-row stride row) in
-        let d : at + stride + 1 ≡ (row + 1) * stride + (col + 1) = omega (arith, next-row stride row) in
-        rw on (λ t. filterOf (getD p (here t) 0 ∷ getD p (b t) 0 ∷ getD p (c t) 0 ∷ getD p (d t) 0 ∷ []))
+        rw on (ap filterOf (corners-block p))
 
     pub smooth-pixel : (y u v : List ℕ)
         → reverseOf (getD y at 0) (filterOf (cornersAt u at (at + stride))) (filterOf (cornersAt v at (at + stride))) ≡ pixelAt stride y u v row col

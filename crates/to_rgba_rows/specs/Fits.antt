@@ -1,6 +1,8 @@
 -- What the writers ask of their callers: no index is out of range, and no product wraps. In each, out, y, u and v are the buffers' lengths.
 --
 --   PartFits, EvenPartFits      a part of a row: as it stands, or with the blocks that filter it
+--   BlocksFit                   blocks of U and V, and what is made of them: p, q and marks are lengths too
+--   MarksFit xs                 32 marks, and their sum fits 16 bits
 --   RowFits, PixelRowsFit       a row of a picture, and its rows
 --   LinesFit, ViewPartFits, ViewLinesFit      rows of a view that share their chroma: their luma alone; a part of them; the rows
 --   Shares n xs z               the first n of xs are the shares z
@@ -9,7 +11,7 @@ use mathlib.Core.Path.{_≡_}
 use mathlib.Core.List.{List}
 use Prim.Native.Nat.{ℕ, _+_, _*_, _/_, _%_, _≤_, _<_}
 use lib.IntN.{ℤ, pos}
-use lib.ListN.{getD}
+use lib.ListN.{length, getD}
 use lib.Signed.{mag}
 use Rattle.colour.specs.Products.{Share}
 
@@ -30,6 +32,21 @@ pub record EvenPartFits (out y u v at below n : ℕ) : Type 0 where
   pub v-has : at + 2 * ((n + 1) / 2) ≤ v
   pub u-below : below + 2 * ((n + 1) / 2) ≤ u
   pub v-below : below + 2 * ((n + 1) / 2) ≤ v
+
+-- as many blocks, whose rows start at `at` and `below`
+pub record BlocksFit (p q marks u v at below blocks : ℕ) : Type 0 where
+  pub few : blocks ≤ 32
+  pub p-long : p ≡ 64
+  pub q-long : q ≡ 64
+  pub marks-long : marks ≡ 32
+  pub u-has : at + 2 * blocks ≤ u
+  pub v-has : at + 2 * blocks ≤ v
+  pub u-below : below + 2 * blocks ≤ u
+  pub v-below : below + 2 * blocks ≤ v
+
+pub record MarksFit (xs : List ℕ) : Type 0 where
+  pub long : length xs ≡ 32
+  pub low : (i : ℕ) → i < 32 → getD xs i 0 ≤ 257
 
 -- n pixels of row `row` of a picture from column `left` on; `reach` is how far from the row's start the chroma is read
 pub record RowFits (out y u v reach stride row left n : ℕ) : Type 0 where

@@ -7,18 +7,33 @@ ghost use mathlib.Core.Path.{_≡_};
 ghost use mathlib.Core.List.{[], _∷_};
 ghost use Prim.Native.Nat.{_+_, _*_, _/_, _%_, _≤_, _<_};
 ghost use lib.Dec.{ltb};
-ghost use lib.ListN.{length, getD};
+ghost use lib.ListN.{length, getD, set};
+ghost use Rattle.lent.specs.Counts.{one, total};
 ghost use Rattle.lent.specs.Paint.{paint, every};
 ghost use Rattle.lent.specs.Pixels.{bytes, done};
-ghost use Rattle.colour.specs.Colour.{reverseOf, filterOf};
+ghost use Rattle.colour.specs.Colour.{reverseOf, filterOf, appliedIn, undoneIn};
 ghost use Rattle.colour.specs.Products.{Tables};
-ghost use Rattle.to_rgba_rows.specs.Rules.{pixelAt, rowFrom, smoothFrom};
-ghost use Rattle.to_rgba_rows.specs.Fits.{EvenPartFits, RowFits, PixelRowsFit};
+ghost use Rattle.to_rgba_rows.specs.Rules.{
+  cornersAt,
+  pixelAt,
+  rowFrom,
+  smoothFrom,
+  markOf,
+  filteredFrom,
+  rowFilteredOf,
+  inBoth,
+};
+ghost use Rattle.to_rgba_rows.specs.Fits.{BlocksFit, MarksFit, EvenPartFits, RowFits, PixelRowsFit};
 
-// Two columns of the upper row, the first one filtered: `upper` are their bytes, `lower` those below.
-fn smoothed_pair(upper: u16, lower: u16) -> u16
-    ensures { λ r. ⌜ (r % 256 ≡ filterOf (upper % 256 ∷ upper / 256 ∷ lower % 256 ∷ lower / 256 ∷ []))
-        × (r / 256 ≡ upper / 256) ⌝ }
+// How many samples of U and of V the filter replaced.
+pub struct Filtered {
+    pub u: usize,
+    pub v: usize,
+}
+
+// The filter of a block: `upper` are the bytes of its upper row, `lower` those below.
+fn undone(upper: u16, lower: u16) -> colour::Undone
+    ensures { λ r. ⌜ r ≡ undoneIn (upper % 256 ∷ upper / 256 ∷ lower % 256 ∷ lower / 256 ∷ []) ⌝ }
 {
     let samples = [
         (upper % 256) as u8,
@@ -26,26 +41,85 @@ fn smoothed_pair(upper: u16, lower: u16) -> u16
         (lower % 256) as u8,
         (lower / 256) as u8,
     ];
-    colour::filter(colour::Block { samples }) as u16 + 256 * (upper / 256)
+    colour::filter(colour::Block { samples })
 }
 
-// The first columns of dst, two for each block, become those of the row from `at` on, filtered with the row from `below` on.
-fn smoothed(dst: &mut [u8; 64], p: &[u8], at: usize, below: usize, blocks: usize)
-    requires { ⌜ (at + 2 * blocks ≤ length (now p)) × (below + 2 * blocks ≤ length (now p)) ⌝ }
-    requires { ⌜ (blocks ≤ 32) × (length (now dst) ≡ 64) ⌝ }
-    ensures { λ _. ⌜ now (dst .exit) ≡ paint (λ j. ltb j (2 * blocks)) (smoothFrom (now (p .entry)) at below) (now (dst .entry)) ⌝ }
+// Two columns of the upper row, the first one filtered.
+fn smoothed_pair(value: u8, upper: u16) -> u16
+    ensures { λ r. ⌜ (r % 256 ≡ value) × (r / 256 ≡ upper / 256) ⌝ }
+{
+    value as u16 + 256 * (upper / 256)
+}
+
+// A block of a plane, whose rows start at `at` and `below`: the two columns of its upper row go to dst from k on, the first one filtered.
+// Answers whether the filter was applied.
+fn smoothed_block(dst: &mut [u8; 64], k: usize, p: &[u8], at: usize, below: usize) -> bool
+    requires { ⌜ (at + 2 ≤ length (now p)) × (below + 2 ≤ length (now p)) × (k + 2 ≤ length (now dst)) ⌝ }
+    ensures { λ _. ⌜ now (dst .exit) ≡ set (set (now (dst .entry)) k (filterOf (cornersAt (now (p .entry)) at below)))
+        (k + 1) (getD (now (p .entry)) (at + 1) 0) ⌝ }
+    ensures { λ r. ⌜ r ≡ appliedIn (cornersAt (now (p .entry)) at below) ⌝ }
+{
+    let upper = lent::words::two(p, at);
+    let lower = lent::words::two(p, below);
+    let f = undone(upper, lower);
+    lent::words::put_two(dst, k, smoothed_pair(f.value, upper));
+    f.applied
+}
+
+fn one(b: bool) -> u16
+    ensures { λ r. ⌜ (r ≡ one b) × (r ≤ 1) ⌝ }
+{
+    if b { 1 } else { 0 }
+}
+
+// The first columns of p and q, two for each block, become those of the rows of U and V from `at` on, filtered with the rows from `below` on. Each
+// block is marked: 1 where the filter was applied in U, 256 where in V. Marked and not summed up, since of a loop with a sum the compiler
+// makes turns of 16 blocks, and the rows of a small rectangle have fewer.
+fn smoothed(
+    p: &mut [u8; 64],
+    q: &mut [u8; 64],
+    marks: &mut [u16; 32],
+    u: &[u8],
+    v: &[u8],
+    at: usize,
+    below: usize,
+    blocks: usize,
+)
+    requires { ⌜ BlocksFit (length (now p)) (length (now q)) (length (now marks)) (length (now u)) (length (now v)) at below blocks ⌝ }
+    ensures p { λ _. ⌜ now (p .exit) ≡ paint (λ j. ltb j (2 * blocks)) (smoothFrom (now (u .entry)) at below) (now (p .entry)) ⌝ }
+    ensures q { λ _. ⌜ now (q .exit) ≡ paint (λ j. ltb j (2 * blocks)) (smoothFrom (now (v .entry)) at below) (now (q .entry)) ⌝ }
+    ensures marks { λ _. ⌜ now (marks .exit) ≡ paint (λ i. ltb i blocks)
+        (markOf (now (u .entry)) (now (v .entry)) at below) (now (marks .entry)) ⌝ }
 {
     let mut i = 0;
     while i < blocks {
         let k = 2 * i;
-        let upper = lent::words::two(p, at + k);
-        let lower = lent::words::two(p, below + k);
-        lent::words::put_two(dst, k, smoothed_pair(upper, lower));
+        let in_u = smoothed_block(p, k, u, at + k, below + k);
+        let in_v = smoothed_block(q, k, v, at + k, below + k);
+        marks[i] = one(in_u) + 256 * one(in_v);
         i += 1;
     }
 }
 
-// n pixels of an even row from an even column on, their chroma filtered.
+// How many blocks are marked in U and in V: the sum of all marks has both counts, one in each of its bytes.
+fn counted(marks: &[u16; 32]) -> Filtered
+    requires { ⌜ MarksFit (now marks) ⌝ }
+    ensures { λ r. ⌜ (r .u ≡ total 32 (λ i. getD (now (marks .entry)) i 0) % 256)
+        × (r .v ≡ total 32 (λ i. getD (now (marks .entry)) i 0) / 256) ⌝ }
+{
+    let mut sum: u16 = 0;
+    let mut i = 0;
+    while i < 32 {
+        sum += marks[i];
+        i += 1;
+    }
+    Filtered {
+        u: (sum % 256) as usize,
+        v: (sum / 256) as usize,
+    }
+}
+
+// n pixels of an even row from an even column on, their chroma filtered, and how often.
 fn even_part(
     out: &mut [u8],
     y: &[u8],
@@ -58,18 +132,19 @@ fn even_part(
     gu: &colour::Table,
     gv: &colour::Table,
     bu: &colour::Table,
-)
+) -> Filtered
     requires { ⌜ EvenPartFits (length (now out)) (length (now y)) (length (now u)) (length (now v)) at below n ⌝ }
     requires { ⌜ Tables (now rv) (now gu) (now gv) (now bu) ⌝ }
     ensures { λ _. ⌜ now (out .exit) ≡ paint every (bytes (λ k. reverseOf (getD (now (y .entry)) (at + k) 0)
         (smoothFrom (now (u .entry)) at below k) (smoothFrom (now (v .entry)) at below k))) (now (out .entry)) ⌝ }
+    ensures { λ r. ⌜ r ≡ inBoth (filteredFrom at below n) (now (u .entry)) (now (v .entry)) ⌝ }
 {
     let mut p = [0u8; 64];
     let mut q = [0u8; 64];
-    let blocks = (n + 1) / 2;
-    smoothed(&mut p, u, at, below, blocks);
-    smoothed(&mut q, v, at, below, blocks);
+    let mut marks = [0u16; 32];
+    smoothed(&mut p, &mut q, &mut marks, u, v, at, below, (n + 1) / 2);
     crate::part(out, y, at, &p, &q, 0, n, rv, gu, gv, bu);
+    counted(&marks)
 }
 
 // An odd row: no pixel is filtered. What is said of a row holds where it is odd; in any other no index is out of range.
@@ -156,21 +231,24 @@ fn even_row(
     gu: &colour::Table,
     gv: &colour::Table,
     bu: &colour::Table,
-)
+) -> Filtered
     requires { ⌜ RowFits (length (now out)) (length (now y)) (length (now u)) (length (now v)) (2 * stride) stride row left n ⌝ }
     requires { ⌜ (stride % 2 ≡ 0) × (0 < n) ⌝ }
     requires { ⌜ Tables (now rv) (now gu) (now gv) (now bu) ⌝ }
     ensures { λ _. ⌜ (row % 2 ≡ 0 → now (out .exit) ≡ paint every
         (bytes (rowFrom left (pixelAt stride (now (y .entry)) (now (u .entry)) (now (v .entry)) row)))
         (now (out .entry))) ⌝ }
+    ensures { λ r. ⌜ (row % 2 ≡ 0 → r ≡ inBoth (rowFilteredOf stride row left n) (now (u .entry)) (now (v .entry))) ⌝ }
 {
     let at = row * stride + left;
     even_head(out, y, u, v, stride, row, left, n, rv, gu, gv, bu);
+    let mut filtered_u = 0;
+    let mut filtered_v = 0;
     let mut col = left % 2;
     while col < n {
         let m = lent::least(n - col, 64);
         let here = at + col;
-        even_part(
+        let filtered = even_part(
             &mut out[4 * col..4 * (col + m)],
             y,
             u,
@@ -183,11 +261,17 @@ fn even_row(
             gv,
             bu,
         );
+        filtered_u += filtered.u;
+        filtered_v += filtered.v;
         col += m;
+    }
+    Filtered {
+        u: filtered_u,
+        v: filtered_v,
     }
 }
 
-// Row `row` of the picture, n pixels from column `left` on.
+// Row `row` of the picture, n pixels from column `left` on, and how many samples of it were filtered.
 pub fn put_row(
     out: &mut [u8],
     y: &[u8],
@@ -202,20 +286,21 @@ pub fn put_row(
     gu: &colour::Table,
     gv: &colour::Table,
     bu: &colour::Table,
-)
+) -> Filtered
     requires { ⌜ PixelRowsFit (length (now out)) (length (now y)) (length (now u)) (length (now v)) stride rows left row n 1 ⌝ }
     requires { ⌜ length (now out) ≡ 4 * n ⌝ }
     requires { ⌜ Tables (now rv) (now gu) (now gv) (now bu) ⌝ }
     ensures { λ _. ⌜ now (out .exit) ≡ paint every
         (bytes (rowFrom left (pixelAt stride (now (y .entry)) (now (u .entry)) (now (v .entry)) row)))
         (now (out .entry)) ⌝ }
+    ensures { λ r. ⌜ r ≡ inBoth (rowFilteredOf stride row left n) (now (u .entry)) (now (v .entry)) ⌝ }
 {
     if row % 2 == 0 {
         // No even row is past rows - 2. Said in the code too: then the compiler's own test that the output overlaps no plane, which it makes
         // once for all rows, does not count a row below the last one.
         let even = lent::least(row, rows - 2);
-        even_row(out, y, u, v, stride, even, left, n, rv, gu, gv, bu);
-    } else {
-        odd_row(out, y, u, v, stride, row, left, n, rv, gu, gv, bu);
+        return even_row(out, y, u, v, stride, even, left, n, rv, gu, gv, bu);
     }
+    odd_row(out, y, u, v, stride, row, left, n, rv, gu, gv, bu);
+    Filtered { u: 0, v: 0 }
 }
