@@ -1,8 +1,9 @@
 // The colour arithmetic on bytes. It serves the runs that compare the port with its original, and is in no header.
 ghost use mathlib.Core.Path.{_≡_};
 ghost use mathlib.Core.List.{[], _∷_};
-ghost use Rattle.colour.specs.Colour.{forwardOf, reverseOf, averageOf, filterOf};
+ghost use Rattle.colour.specs.Colour.{forwardOf, reverseOf, averageOf, undoneIn};
 use colour::Block;
+use colour::Undone;
 use colour::Yuv;
 
 // A pixel over the boundary: red, green, blue, alpha.
@@ -39,10 +40,10 @@ pub extern "C" fn haythaw_average(a: u8, b: u8, c: u8, d: u8) -> u8
     })
 }
 
-// The reverse filter of a block, in the same order.
+// The reverse filter of a block, in the same order: the value, and whether it was applied.
 #[no_mangle]
-pub extern "C" fn haythaw_filter(a: u8, b: u8, c: u8, d: u8) -> u8
-    ensures { λ r. ⌜ r ≡ filterOf (a ∷ b ∷ c ∷ d ∷ []) ⌝ }
+pub extern "C" fn haythaw_filter(a: u8, b: u8, c: u8, d: u8) -> Undone
+    ensures { λ r. ⌜ r ≡ undoneIn (a ∷ b ∷ c ∷ d ∷ []) ⌝ }
 {
     colour::filter(Block {
         samples: [a, b, c, d],

@@ -5,10 +5,12 @@ ghost use Rattle.to_rgba.specs.Picture.{ToRgbaOutcome};
 ghost use Rattle.to_rgba.specs.View.{ViewToRgbaOutcome};
 ghost use Rattle.haythaw.specs.Sizes.{sizesOf, sizeOf, rectOf};
 use picture::Size;
+use to_rgba::Pixels;
 use to_rgba::Rect;
 use view::View;
 
-// The rectangle of the picture, clipped to it, as RGBA, and how many bytes were written; or 1 or 6.
+// The rectangle of the picture, clipped to it, as RGBA, how many bytes were written, and how many samples of U and of V were filtered; or 1
+// or 6.
 #[no_mangle]
 pub extern "C" fn haythaw_to_rgba(
     width: u16,
@@ -21,7 +23,7 @@ pub extern "C" fn haythaw_to_rgba(
     right: u16,
     bottom: u16,
     out: &mut [u8],
-) -> lent::Answer
+) -> Pixels
     ensures { λ r. ⌜ ToRgbaOutcome (sizeOf width height) (now (y .entry)) (now (u .entry)) (now (v .entry))
         (rectOf left top right bottom) (now (out .entry)) r (now (out .exit) ∷ []) ⌝ }
 {

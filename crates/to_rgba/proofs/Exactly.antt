@@ -1,12 +1,11 @@
 -- The table of numbers, "given exactly when", for both conversions: lines from the laws of refusals. Assumes nothing.
 use Prim.Native.Nat.{ℕ, _≤_, _<_}
 use native.Mathlib.Omega.{arith}
-use mathlib.Core.Path.{_≡_, refl, sym, _∙_}
-use mathlib.Core.Bool.{Bool, true, false}
+use mathlib.Core.Path.{_≡_, sym, _∙_}
+use mathlib.Core.Bool.{true, false}
 use mathlib.Core.Logic.{_↔_, Iff·rfl, Iff·symm, Iff·trans, Iff·and, true-and, and-true}
-use mathlib.Core.List.{List, [], _∷_, _++_}
+use mathlib.Core.List.{[], _∷_}
 use lib.Dec.{ltb}
-use Rattle.lent.specs.Refusal.{refusal}
 use Rattle.lent.proofs.Exactly.{below, not-below}
 use Rattle.lent.proofs.Refusal.{refusal-exactly, refusal-none, refusal-first}
 use Rattle.picture.specs.declared.Size.{Size}

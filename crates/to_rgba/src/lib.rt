@@ -7,12 +7,13 @@ ghost use mathlib.Core.Path.{_≡_};
 ghost use mathlib.Core.List.{[], _∷_};
 ghost use lib.ListN.{length};
 ghost use Rattle.colour.specs.Colour.{reverseOf};
-ghost use Rattle.to_rgba_rows.specs.Rules.{pixelAt, viewPixelAt};
+ghost use Rattle.to_rgba_rows.specs.Rules.{pixelAt, viewPixelAt, inBoth};
 ghost use Rattle.to_rgba_rows.specs.Fits.{PixelRowsFit};
 ghost use Rattle.to_rgba.specs.Pictured.{pictured, shifted};
-ghost use Rattle.to_rgba.specs.Picture.{clippedOf, toRgbaNumberOf, ToRgbaOutcome};
+ghost use Rattle.to_rgba.specs.Picture.{clippedOf, filteredRowsOf, pixelsOf, toRgbaNumberOf, ToRgbaOutcome};
 ghost use Rattle.to_rgba.specs.View.{viewToRgbaNumberOf, ViewToRgbaOutcome};
 ghost use Rattle.to_rgba.specs.Fits.{ViewRowsFit};
+use to_rgba_rows::picture_rows::Filtered;
 
 // A rectangle of a picture: right and bottom are exclusive.
 pub struct Rect {
@@ -22,7 +23,18 @@ pub struct Rect {
     pub bottom: u16,
 }
 
-// h rows of n pixels from row `top` and column `left` of the picture on. The tables are asked for once, for all rows.
+// What picture to RGBA answers: 0 or the number of its refusal, how many bytes it wrote, and how many samples of U and of V the filter
+// replaced. In a refusal all counts are 0.
+#[repr(C)]
+pub struct Pixels {
+    pub number: u32,
+    pub count: usize,
+    pub filtered_u: usize,
+    pub filtered_v: usize,
+}
+
+// h rows of n pixels from row `top` and column `left` of the picture on, and how many samples of them were filtered. The tables are asked for
+// once, for all rows.
 fn put_rows(
     out: &mut [u8],
     y: &[u8],
@@ -34,20 +46,23 @@ fn put_rows(
     top: usize,
     n: usize,
     h: usize,
-)
+) -> Filtered
     requires { ⌜ PixelRowsFit (length (now out)) (length (now y)) (length (now u)) (length (now v)) stride rows left top n h ⌝ }
     ensures { λ _. ⌜ now (out .exit) ≡ pictured n h
         (shifted top left (pixelAt stride (now (y .entry)) (now (u .entry)) (now (v .entry)))) (now (out .entry)) ⌝ }
+    ensures { λ r. ⌜ r ≡ inBoth (filteredRowsOf stride left top n h) (now (u .entry)) (now (v .entry)) ⌝ }
 {
     let rv = colour::red_v();
     let gu = colour::green_u();
     let gv = colour::green_v();
     let bu = colour::blue_u();
     let wide = 4 * n;
+    let mut filtered_u = 0;
+    let mut filtered_v = 0;
     let mut r = 0;
     while r < h {
         let start = r * wide;
-        to_rgba_rows::picture_rows::put_row(
+        let filtered = to_rgba_rows::picture_rows::put_row(
             &mut out[start..start + wide],
             y,
             u,
@@ -62,7 +77,13 @@ fn put_rows(
             &gv,
             &bu,
         );
+        filtered_u += filtered.u;
+        filtered_v += filtered.v;
         r += 1;
+    }
+    Filtered {
+        u: filtered_u,
+        v: filtered_v,
     }
 }
 
@@ -95,7 +116,20 @@ fn to_rgba_number(
     0
 }
 
-// The rectangle of the picture, clipped to it, as RGBA. Ports `Yuv444Frame::to_rgba`.
+// The answer of a call that wrote nothing.
+fn none(number: u32) -> Pixels
+    ensures { λ r. ⌜ r ≡ pixelsOf number 0 0 0 ⌝ }
+{
+    Pixels {
+        number,
+        count: 0,
+        filtered_u: 0,
+        filtered_v: 0,
+    }
+}
+
+// The rectangle of the picture, clipped to it, as RGBA, and how many samples were filtered. Ports `Yuv444Frame::to_rgba`, which does not
+// count.
 pub fn to_rgba(
     size: picture::Size,
     y: &[u8],
@@ -103,7 +137,7 @@ pub fn to_rgba(
     v: &[u8],
     rect: Rect,
     out: &mut [u8],
-) -> lent::Answer
+) -> Pixels
     ensures { λ r. ⌜ ToRgbaOutcome size (now (y .entry)) (now (u .entry)) (now (v .entry)) rect
         (now (out .entry)) r (now (out .exit) ∷ []) ⌝ }
 {
@@ -111,24 +145,27 @@ pub fn to_rgba(
     let h = clipped(rect.top, rect.bottom, size.height);
     let count = 4 * (n * h);
     let number = to_rgba_number(size, count, y.len(), u.len(), v.len(), out.len());
-    if number != 0 {
-        return lent::Answer { number, count: 0 };
+    if number != 0 || count == 0 {
+        return none(number);
     }
-    if 0 < count {
-        put_rows(
-            out,
-            y,
-            u,
-            v,
-            picture::stride(size),
-            picture::rows(size),
-            rect.left as usize,
-            rect.top as usize,
-            n,
-            h,
-        );
+    let filtered = put_rows(
+        out,
+        y,
+        u,
+        v,
+        picture::stride(size),
+        picture::rows(size),
+        rect.left as usize,
+        rect.top as usize,
+        n,
+        h,
+    );
+    Pixels {
+        number: 0,
+        count,
+        filtered_u: filtered.u,
+        filtered_v: filtered.v,
     }
-    lent::Answer { number: 0, count }
 }
 
 // The h rows of a view, n pixels each, two at a time, since two rows share their chroma; luma and chroma are its strides.

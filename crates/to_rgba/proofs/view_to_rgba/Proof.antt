@@ -34,7 +34,7 @@ view-to-rgba-number-requires : tie.Need-view-to-rgba-number-requires
 view-to-rgba-number-requires c κs = search needs
 
 returns : tie.Need-returns
-returns c = refused _ _ _ (c .before .view-to-rgba-number .ensures) (λ z. omega arith)
+returns c = refused _ _ (c .before .view-to-rgba-number .ensures) _ (λ z. omega arith)
 
 view-rows-requires : tie.Need-view-rows-requires
 view-rows-requires c κs =
@@ -59,7 +59,7 @@ returns-2 : tie.Need-returns-2
 unfolding viewToRgbaOf
 returns-2 c =
     let k = c .before .before in
-    answered _ _ _ (k .before .before .before .view-to-rgba-number .ensures) (omega arith) refl (k .view-rows .ensures)
+    answered _ _ (k .before .before .before .view-to-rgba-number .ensures) (omega arith) refl (k .view-rows .ensures)
 
 pub view-to-rgba-spec : {M : Type 1} → statement M
 view-to-rgba-spec =
