@@ -26,7 +26,7 @@ enum {
 
 typedef struct { uint8_t y[PLANE], u[PLANE], v[PLANE]; } Picture;
 typedef struct { uint8_t y[PLANE], u[PLANE / 4], v[PLANE / 4]; } View;
-typedef struct { const char *name, *file; uint8_t rgba[RGBA]; } Shown;
+typedef struct { const char *name, *file; uint8_t rgba[RGBA]; haythaw_pixels pixels; } Shown;
 
 #define PLANES(p) (p)->y, PLANE, (p)->u, PLANE, (p)->v, PLANE
 #define VIEW_PLANES(w) (w)->y, PLANE, (w)->u, PLANE / 4, (w)->v, PLANE / 4
@@ -61,9 +61,11 @@ static Picture from_rgba(const uint8_t *rgba)
     return p;
 }
 
-static void to_rgba(const Picture *p, uint8_t *rgba)
+static haythaw_pixels to_rgba(const Picture *p, uint8_t *rgba)
 {
-    must(haythaw_to_rgba(WIDTH, HEIGHT, PLANES(p), 0, 0, WIDTH, HEIGHT, rgba, RGBA).number, "to_rgba");
+    const haythaw_pixels pixels = haythaw_to_rgba(WIDTH, HEIGHT, PLANES(p), 0, 0, WIDTH, HEIGHT, rgba, RGBA);
+    must(pixels.number, "to_rgba");
+    return pixels;
 }
 
 /* ---- Through the views ---- */
@@ -210,6 +212,14 @@ static bool say(const char *what, bool holds)
     return holds;
 }
 
+/* How often the filter replaced an average, which it may in every 2x2 block once for U and once for V. */
+static void filtered_told(const Shown *shown, size_t count)
+{
+    printf("\nOf the strip's %d blocks the reverse filter replaced\n", (WIDTH + 1) / 2 * ((HEIGHT + 1) / 2));
+    for (size_t k = 0; k < count; k++)
+        printf("  %-22s U in %2zu, V in %2zu\n", shown[k].name, shown[k].pixels.filtered_u, shown[k].pixels.filtered_v);
+}
+
 static bool told(const Shown *shown, const uint8_t *direct)
 {
     const Shown *before = &shown[0], *v1 = &shown[1], *v2 = &shown[2], *wrong = &shown[3];
@@ -222,6 +232,7 @@ static bool told(const Shown *shown, const uint8_t *direct)
         printf("  %-22s %3d %3d %3d   %s\n", shown[k].name, p[0], p[1], p[2], word(p));
         right = one_colour(&shown[k]) && right;
     }
+    filtered_told(shown, 4);
     printf("\n");
     right = say("after V1 every byte is as from_rgba, then to_rgba, of the new strip make it", memcmp(v1->rgba, direct, RGBA) == 0) && right;
     right = say("after V2 every byte is as from_rgba, then to_rgba, of the new strip make it", memcmp(v2->rgba, direct, RGBA) == 0) && right;
@@ -236,14 +247,14 @@ static bool told(const Shown *shown, const uint8_t *direct)
 int main(int words, char **word_at)
 {
     static const uint16_t update[4] = {TICK, 0, WIDTH, HEIGHT}; /* left is odd */
-    static Shown shown[4] = {{"before", "before.png", {0}}, {"after V1", "v1.png", {0}}, {"after V2", "v2.png", {0}},
-                             {"left edge rounded up", "rounded-up.png", {0}}};
+    static Shown shown[4] = {{"before", "before.png", {0}, {0}}, {"after V1", "v1.png", {0}, {0}}, {"after V2", "v2.png", {0}, {0}},
+                             {"left edge rounded up", "rounded-up.png", {0}, {0}}};
     static uint8_t strip[RGBA], direct[RGBA];
     const char *folder = words > 1 ? word_at[1] : ".";
 
     draw(strip, -1);
     const Picture earlier = from_rgba(strip);
-    to_rgba(&earlier, shown[0].rgba);
+    shown[0].pixels = to_rgba(&earlier, shown[0].rgba);
 
     draw(strip, MISSING);
     const Picture new_strip = from_rgba(strip);
@@ -253,11 +264,11 @@ int main(int words, char **word_at)
         const Sent views = sent(&new_strip, (enum layout)layout);
         Picture p = earlier;
         receive(&p, &views, update);
-        to_rgba(&p, shown[1 + layout].rgba);
+        shown[1 + layout].pixels = to_rgba(&p, shown[1 + layout].rgba);
     }
     const Sent views = sent(&new_strip, V2); /* what the lab's server sends */
     const Picture wrong = rounded_up(&earlier, &views, update);
-    to_rgba(&wrong, shown[3].rgba);
+    shown[3].pixels = to_rgba(&wrong, shown[3].rgba);
 
     printf("Pictures, %d times as large, and all in one:\n", TIMES);
     write_pictures(folder, shown, 4);

@@ -13,7 +13,7 @@ int main(void)
         return 1;
     haythaw_views views = haythaw_split_v2(2, 1, y, 256, u, 256, v, 256, main_y, 256, main_u, 64, main_v, 64,
                                            auxiliary_y, 256, auxiliary_u, 64, auxiliary_v, 64);
-    haythaw_answer answer = haythaw_to_rgba(2, 1, y, 256, u, 256, v, 256, 0, 0, 1, 1, red, sizeof red);
-    printf("views of %u x %u; %zu bytes: %u %u %u\n", views.width, views.height, answer.count, red[0], red[1], red[2]);
-    return answer.number != HAYTHAW_DONE;
+    haythaw_pixels shown = haythaw_to_rgba(2, 1, y, 256, u, 256, v, 256, 0, 0, 1, 1, red, sizeof red);
+    printf("views of %u x %u; %zu bytes: %u %u %u\n", views.width, views.height, shown.count, red[0], red[1], red[2]);
+    return shown.number != HAYTHAW_DONE;
 }

@@ -71,6 +71,15 @@ typedef struct haythaw_answer {
     size_t count;
 } haythaw_answer;
 
+/* What picture to RGBA answers: a number, how many bytes were written, and how many samples of U and of V the reverse filter
+ * replaced on their way to those bytes. A sample whose average was kept is not counted. In a refusal all three counts are 0. */
+typedef struct haythaw_pixels {
+    uint32_t number;
+    size_t count;
+    size_t filtered_u;
+    size_t filtered_v;
+} haythaw_pixels;
+
 /* Where a row of a view is, in the caller's own plane: `length` bytes from `start` on. A row that the view does not have is no
  * refusal: number 0, not present, start and length 0. A present row of a view of width 0 has length 0. In a refusal present is
  * false, start and length are 0. It stands for a count that is always 0. */
@@ -153,12 +162,13 @@ uint32_t haythaw_new(uint16_t width, uint16_t height, uint8_t *y, size_t y_count
 uint32_t haythaw_from_rgba(const uint8_t *rgba, size_t rgba_count, uint16_t width, uint16_t height,
                            uint8_t *y, size_t y_count, uint8_t *u, size_t u_count, uint8_t *v, size_t v_count);
 
-/* The rectangle's pixels as RGBA, alpha 255. The rectangle is clipped to the picture; an empty one writes nothing, with count 0
- * and number 0. At pixels of even row and even column U and V go through the reverse filter on their way; the planes keep their
- * averages.
+/* The rectangle's pixels as RGBA, alpha 255. The rectangle is clipped to the picture; an empty one writes nothing, with number 0
+ * and all counts 0. At pixels of even row and even column of the picture U and V go through the reverse filter on their way, which
+ * keeps a block's average or replaces it; the planes keep their averages. filtered_u and filtered_v say at how many pixels of the
+ * clipped rectangle it replaced U, and at how many V: at most one in each 2x2 block.
  * Answers 0, 1 or 6, in this order of refusals; the count is 4 x the clipped pixels. Writes the first count bytes of out; bytes
  * after them stay. */
-haythaw_answer haythaw_to_rgba(uint16_t width, uint16_t height, const uint8_t *y, size_t y_count,
+haythaw_pixels haythaw_to_rgba(uint16_t width, uint16_t height, const uint8_t *y, size_t y_count,
                                const uint8_t *u, size_t u_count, const uint8_t *v, size_t v_count,
                                uint16_t left, uint16_t top, uint16_t right, uint16_t bottom, uint8_t *out, size_t out_count);
 

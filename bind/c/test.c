@@ -73,6 +73,8 @@ int main(int words, char **word)
         new_by_hand();
         from_rgba_by_hand();
         to_rgba_by_hand();
+        filter_by_hand();
+        filtered_by_hand();
         rectangles_by_hand();
         cropped_by_hand();
         split_by_hand();

@@ -52,9 +52,9 @@ static void to_rgba_by_hand(void)
     static const uint8_t acts[16] = {100, 110, 0, 255, 100, 103, 66, 255, 100, 103, 66, 255, 100, 103, 66, 255};
     static const uint8_t rests[16] = {100, 105, 48, 255, 100, 103, 66, 255, 100, 103, 66, 255, 100, 103, 64, 255};
     static const uint8_t column[8] = {100, 103, 66, 255, 100, 103, 64, 255};
-    static const struct { uint16_t edges[4]; uint8_t diagonal; size_t count; const uint8_t *want; } cases[] = {
-        {{0, 0, 2, 2}, 110, 16, acts}, {{0, 0, 65535, 65535}, 109, 16, rests}, {{1, 0, 9, 9}, 109, 8, column},
-        {{2, 0, 2, 2}, 110, 0, acts}, {{2, 2, 0, 0}, 110, 0, acts}, {{0, 1, 2, 1}, 110, 0, acts}, {{7, 7, 9, 9}, 110, 0, acts}};
+    static const struct { uint16_t edges[4]; uint8_t diagonal; size_t count, filtered; const uint8_t *want; } cases[] = {
+        {{0, 0, 2, 2}, 110, 16, 1, acts}, {{0, 0, 65535, 65535}, 109, 16, 0, rests}, {{1, 0, 9, 9}, 109, 8, 0, column},
+        {{2, 0, 2, 2}, 110, 0, 0, acts}, {{2, 2, 0, 0}, 110, 0, 0, acts}, {{0, 1, 2, 1}, 110, 0, 0, acts}, {{7, 7, 9, 9}, 110, 0, 0, acts}};
     for (size_t k = 0; k < sizeof cases / sizeof *cases; k++) {
         for (size_t extra = 0; extra < 2; extra++) {
             Args a = {0};
@@ -68,11 +68,92 @@ static void to_rgba_by_hand(void)
             lend_as(&a, OUT, cases[k].count + extra, NULL);
             Result r = tried(TO_RGBA, &a);
             check(r.number == 0 && r.count == cases[k].count, "to_rgba", "number and count");
+            check(r.filtered_u == cases[k].filtered && r.filtered_v == 0, "to_rgba", "what was filtered");
             check(cases[k].count == 0 || memcmp(a.at[OUT], cases[k].want, cases[k].count) == 0, "to_rgba", "the pixels");
             check(kept_from(a.at[OUT], cases[k].count) && kept_from(a.at[U], 0), "to_rgba", "the rest");
             over(TO_RGBA);
         }
     }
+}
+
+/* Writes a 2x2 block: the even-even sample, then right, below, diagonal. */
+static void put_block(const Args *a, enum slice plane, size_t row, size_t col, const uint8_t samples[4])
+{
+    uint8_t *at = (uint8_t *)a->at[plane] + row * up_to(a->width, 16) + col;
+    memcpy(at, samples, 2);
+    memcpy(at + up_to(a->width, 16), samples + 2, 2);
+}
+
+static Result filtering(Args *a, const uint16_t edges[4])
+{
+    a->left = edges[0], a->top = edges[1], a->right = edges[2], a->bottom = edges[3];
+    return tried(TO_RGBA, a);
+}
+
+/* The filter at its edges: whether it replaces the even-even sample a of a block, where t is 4 a less the sum of the others, clamped. Each
+ * block in U with each in V, in rectangles of a 2x2 picture that have its first pixel and in some that do not. */
+static void filter_by_hand(void)
+{
+    static const struct { uint8_t samples[4]; bool replaced; } blocks[] = {
+        {{100, 110, 110, 109}, false}, /* t = 400 - 329 = 71: 29 away */
+        {{100, 110, 110, 110}, true},  /* t = 400 - 330 = 70: 30 away */
+        {{100, 90, 90, 91}, false},    /* t = 129 */
+        {{100, 90, 90, 90}, true},     /* t = 130 */
+        {{30, 40, 40, 40}, true},      /* t = 0 */
+        {{29, 40, 40, 40}, false},     /* t = 0 (116 - 120): 29 away */
+        {{225, 100, 100, 100}, true},  /* t = 255 */
+        {{226, 100, 100, 100}, false}, /* t = 255: 29 away */
+        {{90, 90, 90, 90}, false},     /* t = a */
+        {{128, 127, 128, 129}, false}};
+    static const struct { uint16_t edges[4]; bool first; } rects[] = {
+        {{0, 0, 2, 2}, true}, {{0, 0, 1, 1}, true}, {{0, 0, 65535, 1}, true}, {{1, 0, 2, 2}, false}, {{0, 1, 2, 2}, false},
+        {{1, 1, 2, 2}, false}, {{0, 0, 0, 2}, false}, {{2, 0, 9, 9}, false}, {{2, 2, 0, 0}, false}};
+    enum { BLOCKS = sizeof blocks / sizeof *blocks, RECTANGLES = sizeof rects / sizeof *rects };
+    for (size_t of_u = 0; of_u < BLOCKS; of_u++)
+        for (size_t of_v = 0; of_v < BLOCKS; of_v++) {
+            Args a = {0};
+            picture(&a, 2, 2, 256);
+            put_block(&a, U, 0, 0, blocks[of_u].samples);
+            put_block(&a, V, 0, 0, blocks[of_v].samples);
+            lend_as(&a, OUT, 16, NULL);
+            for (size_t k = 0; k < RECTANGLES; k++) {
+                Result r = filtering(&a, rects[k].edges);
+                check(r.number == 0 && r.filtered_u == (rects[k].first && blocks[of_u].replaced), "to_rgba", "filtered U at the edge");
+                check(r.filtered_v == (rects[k].first && blocks[of_v].replaced), "to_rgba", "filtered V at the edge");
+            }
+            over(TO_RGBA);
+        }
+}
+
+/* A 5x3 picture: all blocks of U are replaced, and those of V at columns 0, 4, 8 and 12; in the padding too, where nothing is counted. */
+static void filtered_by_hand(void)
+{
+    static const uint8_t acts[4] = {100, 110, 110, 110}, rests[4] = {100, 110, 110, 109};
+    static const struct { uint16_t edges[4]; size_t in_u, in_v; } cases[] = {
+        {{0, 0, 5, 3}, 6, 4}, {{0, 0, 65535, 65535}, 6, 4}, {{1, 0, 5, 3}, 4, 2}, {{0, 1, 5, 3}, 3, 2}, {{1, 1, 5, 3}, 2, 1},
+        {{0, 0, 4, 3}, 4, 2}, {{0, 0, 5, 2}, 3, 2}, {{4, 2, 5, 3}, 1, 1}, {{2, 0, 4, 3}, 2, 0}, {{1, 1, 2, 2}, 0, 0},
+        {{3, 0, 4, 3}, 0, 0}, {{0, 1, 5, 2}, 0, 0}, {{5, 0, 9, 3}, 0, 0}, {{0, 3, 5, 9}, 0, 0}, {{4, 0, 2, 3}, 0, 0}};
+    Args a = {0};
+    picture(&a, 5, 3, 256);
+    for (size_t row = 0; row < 16; row += 2)
+        for (size_t col = 0; col < 16; col += 2) {
+            put_block(&a, U, row, col, acts);
+            put_block(&a, V, row, col, col % 4 == 0 ? acts : rests);
+        }
+    lend_as(&a, OUT, 60, NULL);
+    for (size_t k = 0; k < sizeof cases / sizeof *cases; k++) {
+        Result r = filtering(&a, cases[k].edges);
+        check(r.number == 0 && r.filtered_u == cases[k].in_u && r.filtered_v == cases[k].in_v, "to_rgba", "what a rectangle filtered");
+    }
+
+    /* a refusal counts nothing: 6, and then 1 */
+    a.count[OUT] = 59;
+    Result r = filtering(&a, cases[0].edges);
+    check(is_refusal(&r, 6), "to_rgba", "nothing filtered in a refusal with 6");
+    a.count[V] = 255;
+    r = filtering(&a, cases[0].edges);
+    check(is_refusal(&r, 1), "to_rgba", "nothing filtered in a refusal with 1");
+    over(TO_RGBA);
 }
 
 static uint8_t sample(const Args *a, enum slice plane, size_t row, size_t col)

@@ -41,7 +41,7 @@ typedef struct {
     uint32_t number;
     bool present, yes;
     uint16_t width, height;
-    size_t count, start, length, luma_stride, chroma_stride;
+    size_t count, filtered_u, filtered_v, start, length, luma_stride, chroma_stride;
     uint32_t kind;
     haythaw_stream luma, chroma;
     uint16_t left, top, right, bottom;
@@ -67,6 +67,15 @@ static Result of_answer(haythaw_answer answer)
 {
     Result r = of_number(answer.number);
     r.count = answer.count;
+    return r;
+}
+
+static Result of_pixels(haythaw_pixels pixels)
+{
+    Result r = of_number(pixels.number);
+    r.count = pixels.count;
+    r.filtered_u = pixels.filtered_u;
+    r.filtered_v = pixels.filtered_v;
     return r;
 }
 
@@ -132,7 +141,7 @@ static Result run(enum call call, const Args *a)
     switch (call) {
     case NEW: return of_number(haythaw_new(PICTURE));
     case FROM_RGBA: return of_number(haythaw_from_rgba(LENT(RGBA), PICTURE));
-    case TO_RGBA: return of_answer(haythaw_to_rgba(PICTURE, a->left, a->top, a->right, a->bottom, LENT(OUT)));
+    case TO_RGBA: return of_pixels(haythaw_to_rgba(PICTURE, a->left, a->top, a->right, a->bottom, LENT(OUT)));
     case MAIN: return of_number(haythaw_apply_main_view(PICTURE, LENT(RECTS), A_VIEW));
     case AUX_V1: return of_number(haythaw_apply_auxiliary_v1(PICTURE, LENT(RECTS), A_VIEW));
     case AUX_V2: return of_number(haythaw_apply_auxiliary_v2(PICTURE, LENT(RECTS), A_VIEW));

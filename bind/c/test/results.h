@@ -100,10 +100,14 @@ static void result_of_picture(void)
 
     uint8_t out[8] = {0};
     const uint8_t pixels[8] = {252, 0, 0, 255, 0, 254, 0, 255};
-    haythaw_answer answer = haythaw_to_rgba(2, 1, y, 256, u, 256, v, 256, 0, 0, 9, 9, out, 7);
-    check(answer.number == HAYTHAW_OUTPUT_SHORT && answer.count == 0, "to_rgba", "a refusal");
-    answer = haythaw_to_rgba(2, 1, y, 256, u, 256, v, 256, 0, 0, 9, 9, out, 8);
-    check(answer.number == HAYTHAW_DONE && answer.count == 8 && memcmp(out, pixels, 8) == 0, "to_rgba", "an answer");
+    haythaw_pixels shown = haythaw_to_rgba(2, 1, y, 256, u, 256, v, 256, 0, 0, 9, 9, out, 7);
+    check(shown.number == HAYTHAW_OUTPUT_SHORT && shown.count == 0, "to_rgba", "a refusal");
+    check(shown.filtered_u == 0 && shown.filtered_v == 0, "to_rgba", "nothing filtered in a refusal");
+    shown = haythaw_to_rgba(2, 1, y, 256, u, 256, v, 256, 0, 0, 9, 9, out, 8);
+    check(shown.number == HAYTHAW_DONE && shown.count == 8 && memcmp(out, pixels, 8) == 0, "to_rgba", "an answer");
+
+    /* U: 4 x 96 - (29 + 128 + 128) = 99, so 96 is kept; V: 4 x 131 - (12 + 128 + 128) = 256, so 131 becomes 255. */
+    check(shown.filtered_u == 0 && shown.filtered_v == 1, "to_rgba", "what was filtered");
 }
 
 /* A view of 1 by 1 goes into a picture of 2 by 1, and to RGBA. */

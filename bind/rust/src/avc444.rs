@@ -53,6 +53,15 @@ pub struct Yuv444Frame {
     v: Vec<u8>,
 }
 
+/// How many chroma samples the reverse chroma filter replaced; see [`Yuv444Frame::to_rgba_counted`].
+#[derive(Debug, Clone, Copy, Default, PartialEq, Eq, Hash)]
+pub struct FilterCounts {
+    /// Samples of U.
+    pub u: usize,
+    /// Samples of V.
+    pub v: usize,
+}
+
 impl Yuv444Frame {
     /// A black picture.
     ///
@@ -169,6 +178,32 @@ impl Yuv444Frame {
     /// assert!(picture.to_rgba(&off).is_empty());
     /// ```
     pub fn to_rgba(&self, rect: &ExclusiveRectangle) -> Vec<u8> {
+        self.to_rgba_counted(rect).0
+    }
+
+    /// The same pixels, and how many samples the reverse chroma filter replaced on their way.
+    ///
+    /// The filter looks at one sample of U and one of V in each 2x2 block, that at even row and even column of the picture. It counts
+    /// where it answers another value than the block's average, and `rect` has that pixel.
+    ///
+    /// ```
+    /// use haythaw::avc444::{FilterCounts, Yuv444Frame};
+    /// use haythaw::geometry::ExclusiveRectangle;
+    ///
+    /// // A magenta pixel beside white ones: its colour comes back from the average of the block.
+    /// let mut rgba = [255; 4 * 4];
+    /// rgba[..4].copy_from_slice(&[255, 0, 255, 255]);
+    /// let picture = Yuv444Frame::from_rgba(&rgba, 2, 2).expect("2 x 2 pixels");
+    /// let whole = ExclusiveRectangle { left: 0, top: 0, right: 2, bottom: 2 };
+    /// let (shown, filtered) = picture.to_rgba_counted(&whole);
+    /// assert_eq!(filtered, FilterCounts { u: 1, v: 1 });
+    /// assert_eq!(shown, picture.to_rgba(&whole));
+    ///
+    /// // The pixel at its right is not one that the filter looks at.
+    /// let beside = ExclusiveRectangle { left: 1, ..whole };
+    /// assert_eq!(picture.to_rgba_counted(&beside).1, FilterCounts::default());
+    /// ```
+    pub fn to_rgba_counted(&self, rect: &ExclusiveRectangle) -> (Vec<u8>, FilterCounts) {
         let across = rect.right.min(self.width).saturating_sub(rect.left);
         let down = rect.bottom.min(self.height).saturating_sub(rect.top);
         let mut rgba = vec![0; usize::from(across) * usize::from(down) * 4];
@@ -176,7 +211,7 @@ impl Yuv444Frame {
         let answer = library::to_rgba(size, planes, [rect.left, rect.top, rect.right, rect.bottom], &mut rgba);
         library::done("to_rgba", answer.number);
         rgba.truncate(answer.count);
-        rgba
+        (rgba, FilterCounts { u: answer.filtered_u, v: answer.filtered_v })
     }
 
     /// Splits the picture into its main view and its auxiliary view, both as large as the padded planes.

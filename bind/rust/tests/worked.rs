@@ -1,7 +1,7 @@
 //! The numbers that the rules works by hand, through this crate's calls. A picture's planes are read by splitting it: the two views
 //! hold every sample.
 
-use haythaw::{Avc444Layout, ExclusiveRectangle, Yuv420Frame, Yuv444Frame};
+use haythaw::{Avc444Layout, ExclusiveRectangle, FilterCounts, Yuv420Frame, Yuv444Frame};
 
 fn rect([left, top, right, bottom]: [u16; 4]) -> ExclusiveRectangle {
     ExclusiveRectangle { left, top, right, bottom }
@@ -54,6 +54,31 @@ fn colours_forward_and_back() {
         let [r, g, b] = back;
         assert_eq!(picture.to_rgba(&rect([0, 0, 2, 2])), [r, g, b, 255].repeat(4), "{rgb:?}");
     }
+}
+
+/// White pixels and a green one at each place of even row and even column: U is 29 there and 128 around it, V 12 and 128, so that the averages
+/// are (29 + 3 * 128 + 2) / 4 = 103 and 99; undone they are 28 and 12, both 30 or more away. The blocks of the odd last row and column
+/// are padded with 128, as white is. A grey picture has nothing to replace.
+#[test]
+fn what_the_filter_replaced() {
+    let pixel = |row: usize, col: usize| if row % 2 == 0 && col % 2 == 0 { [0, 255, 0, 0] } else { [255; 4] };
+    let pixels: Vec<u8> = (0..3 * 5).flat_map(|at| pixel(at / 5, at % 5)).collect();
+    let picture = Yuv444Frame::from_rgba(&pixels, 5, 3).expect("15 pixels");
+    for (edges, blocks) in [
+        ([0, 0, 5, 3], 6),
+        ([0, 0, 65535, 65535], 6),
+        ([1, 0, 5, 3], 4),
+        ([0, 1, 5, 3], 3),
+        ([4, 2, 5, 3], 1),
+        ([1, 1, 2, 2], 0),
+        ([5, 0, 9, 3], 0),
+        ([4, 0, 2, 3], 0),
+    ] {
+        let (shown, filtered) = picture.to_rgba_counted(&rect(edges));
+        assert_eq!(filtered, FilterCounts { u: blocks, v: blocks }, "{edges:?}");
+        assert_eq!(shown, picture.to_rgba(&rect(edges)), "{edges:?}");
+    }
+    assert_eq!(Yuv444Frame::new(5, 3).to_rgba_counted(&rect([0, 0, 5, 3])).1, FilterCounts::default());
 }
 
 #[test]

@@ -2,6 +2,17 @@
 
 use super::{Answer, Size, View};
 
+/// What picture to RGBA answers: 0 or the number of a refusal, how many bytes were written, and how many samples of U and of V the filter
+/// replaced.
+#[repr(C)]
+#[derive(Debug, Clone, Copy, PartialEq, Eq)]
+pub struct Pixels {
+    pub number: u32,
+    pub count: usize,
+    pub filtered_u: usize,
+    pub filtered_v: usize,
+}
+
 // The names and the types are those of crates/haythaw.
 unsafe extern "C" {
     fn haythaw_to_rgba(
@@ -19,7 +30,7 @@ unsafe extern "C" {
         bottom: u16,
         out: *mut u8,
         out_count: usize,
-    ) -> Answer;
+    ) -> Pixels;
     fn haythaw_view_to_rgba(
         view_width: u16,
         view_height: u16,
@@ -38,7 +49,7 @@ unsafe extern "C" {
 
 /// The rectangle (left, top, right, bottom) of a picture. 0, 1 or 6.
 #[inline]
-pub fn to_rgba(Size { width, height }: Size, [y, u, v]: [&[u8]; 3], rect: [u16; 4], out: &mut [u8]) -> Answer {
+pub fn to_rgba(Size { width, height }: Size, [y, u, v]: [&[u8]; 3], rect: [u16; 4], out: &mut [u8]) -> Pixels {
     let [left, top, right, bottom] = rect;
     // SAFETY: each pointer and count are of one slice, and the one that is written is borrowed for that alone.
     unsafe {
