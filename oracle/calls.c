@@ -6,12 +6,13 @@
 
 typedef struct { uint8_t y, u, v; } Yuv;
 typedef struct { uint8_t bytes[4]; } Pixel;
+typedef struct { uint8_t value; bool applied; } Undone;
 
 /* Only the runs beside the Rust original call these. */
 Yuv haythaw_forward(uint8_t r, uint8_t g, uint8_t b);
 Pixel haythaw_reverse(uint8_t y, uint8_t u, uint8_t v);
 uint8_t haythaw_average(uint8_t a, uint8_t b, uint8_t c, uint8_t d);
-uint8_t haythaw_filter(uint8_t a, uint8_t b, uint8_t c, uint8_t d);
+Undone haythaw_filter(uint8_t a, uint8_t b, uint8_t c, uint8_t d);
 
 static int wrong;
 
@@ -33,7 +34,9 @@ static void result_of_bytes(void)
     check(back.bytes[0] == 252 && back.bytes[1] == 0 && back.bytes[2] == 0 && back.bytes[3] == 255, "reverse", "4 bytes");
 
     check(haythaw_average(255, 255, 255, 252) == 254, "average", "a byte");
-    check(haythaw_filter(100, 110, 110, 110) == 70 && haythaw_filter(100, 110, 110, 109) == 100, "filter", "a byte");
+    Undone acts = haythaw_filter(100, 110, 110, 110), rests = haythaw_filter(100, 110, 110, 109);
+    check(acts.value == 70 && acts.applied, "filter", "a byte and yes");
+    check(rests.value == 100 && !rests.applied, "filter", "a byte and no");
 }
 
 int main(void)

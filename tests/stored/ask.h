@@ -47,6 +47,7 @@ static const Field *fields_of(int call)
 {
     static const Field number[MOST_FIELDS + 1] = {FIELD(number)}, yes[MOST_FIELDS + 1] = {FIELD(yes)}, size[MOST_FIELDS + 1] = {FIELD(count)},
         answer[MOST_FIELDS + 1] = {FIELD(number), FIELD(count)},
+        pixels[MOST_FIELDS + 1] = {FIELD(number), FIELD(count), FIELD(filtered_u), FIELD(filtered_v)},
         row[MOST_FIELDS + 1] = {FIELD(number), FIELD(present), FIELD(start), FIELD(length)},
         views[MOST_FIELDS + 1] = {FIELD(number), FIELD(width), FIELD(height), FIELD(luma_stride), FIELD(chroma_stride)},
         avc444[MOST_FIELDS + 1] = {FIELD(number), FIELD(kind), STREAM(luma), STREAM(chroma)},
@@ -55,7 +56,8 @@ static const Field *fields_of(int call)
     switch (call) {
     case ALLOCATION_SIZE: return size;
     case IS_AVC: return yes;
-    case TO_RGBA: case VIEW_TO_RGBA: case ANNEX_B: case LUMA_RECTS: case CHROMA_RECTS: case WRITE: return answer;
+    case TO_RGBA: return pixels;
+    case VIEW_TO_RGBA: case ANNEX_B: case LUMA_RECTS: case CHROMA_RECTS: case WRITE: return answer;
     case LUMA_ROW: case U_ROW: case V_ROW: return row;
     case SPLIT_V1: case SPLIT_V2: return views;
     case READ: return avc444;

@@ -61,6 +61,8 @@ static void pixels_words(const Args *a, enum call call)
     }
     printf(": %zu ", r.count);
     say_first(a, OUT, r.count);
+    if (call == TO_RGBA)
+        printf(", filtered %zu %zu", r.filtered_u, r.filtered_v);
     printf("\n");
 }
 

@@ -58,7 +58,7 @@ static void planes_line(const PlanesCase *c)
 }
 
 /* A picture's size, the lengths of its planes, a rectangle, and the bytes of output lent. All bytes of the planes are 128, and so are red,
- * green and blue. */
+ * green and blue: each block is its own average, so that the filter replaces nothing. */
 typedef struct { const char *name; uint16_t width, height; size_t lengths[3]; uint16_t rect[4]; size_t room; } PixelsCase;
 #define WHOLE_FIVE {0, 0, 5, 5}
 #define FIVE_PLANES {256, 256, 256}
@@ -103,6 +103,8 @@ static void converted_line(const char *name, enum call call, const Args *a, enum
     say_answer(name, &r);
     say_written(", out ", a, OUT, UNWRITTEN, r.count);
     say_read(", planes ", a, first, (enum slice)(first + 2), GREY);
+    if (call == TO_RGBA)
+        printf(", filtered %zu %zu", r.filtered_u, r.filtered_v);
     printf("\n");
     over(call);
 }

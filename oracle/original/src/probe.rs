@@ -3,7 +3,7 @@
 //! This is a child module of `avc444`. No function here is inlined into its caller, as no
 //! function of the library is: so a call costs both sides the same.
 
-use super::Yuv444Frame;
+use super::{ExclusiveRectangle, Yuv444Frame};
 
 /// The forward transform: Y, U, V.
 #[inline(never)]
@@ -27,6 +27,24 @@ pub fn average(a: u8, b: u8, c: u8, d: u8) -> u8 {
 #[inline(never)]
 pub fn filter(a: u8, b: u8, c: u8, d: u8) -> u8 {
     super::reverse_filter(a, b, c, d)
+}
+
+/// How many samples of U and of V the filter replaces on their way to the pixels of a rectangle: where the original's filter, at the
+/// places where its `to_rgba` asks it, answers another value than the sample.
+pub fn filtered(picture: &Yuv444Frame, rect: &ExclusiveRectangle) -> [usize; 2] {
+    let rows = usize::from(rect.top)..usize::from(rect.bottom.min(picture.height));
+    let columns = usize::from(rect.left)..usize::from(rect.right.min(picture.width));
+    let places: Vec<_> = rows
+        .filter(|row| row % 2 == 0)
+        .flat_map(|row| columns.clone().filter(|column| column % 2 == 0).map(move |column| (row, column)))
+        .collect();
+    [&picture.u, &picture.v].map(|plane| {
+        let replaced = |&&(row, column): &&(usize, usize)| {
+            let (at, below) = (row * picture.stride + column, (row + 1) * picture.stride + column);
+            filter(plane[at], plane[at + 1], plane[below], plane[below + 1]) != plane[at]
+        };
+        places.iter().filter(replaced).count()
+    })
 }
 
 /// The planes Y, U and V of a picture, padding included.

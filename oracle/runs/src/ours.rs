@@ -18,13 +18,19 @@ struct Pixel {
     bytes: [u8; 4],
 }
 
+#[repr(C)]
+struct Undone {
+    value: u8,
+    applied: bool,
+}
+
 // SAFETY: the names and the types are those of crates/haythaw. Each function marked safe takes bytes by value
 // and is proved to answer for all of them.
 unsafe extern "C" {
     safe fn haythaw_forward(r: u8, g: u8, b: u8) -> Yuv;
     safe fn haythaw_reverse(y: u8, u: u8, v: u8) -> Pixel;
     safe fn haythaw_average(a: u8, b: u8, c: u8, d: u8) -> u8;
-    safe fn haythaw_filter(a: u8, b: u8, c: u8, d: u8) -> u8;
+    safe fn haythaw_filter(a: u8, b: u8, c: u8, d: u8) -> Undone;
 }
 
 /// The forward transform: Y, U, V.
@@ -46,8 +52,9 @@ pub fn average(a: u8, b: u8, c: u8, d: u8) -> u8 {
     haythaw_average(a, b, c, d)
 }
 
-/// The reverse chroma filter: the even-even sample, then right, below and diagonal.
+/// The reverse chroma filter of the even-even sample, then right, below and diagonal: the value, and 1 where it was applied, else 0.
 #[inline]
-pub fn filter(a: u8, b: u8, c: u8, d: u8) -> u8 {
-    haythaw_filter(a, b, c, d)
+pub fn filter(a: u8, b: u8, c: u8, d: u8) -> [u8; 2] {
+    let Undone { value, applied } = haythaw_filter(a, b, c, d);
+    [value, applied.into()]
 }

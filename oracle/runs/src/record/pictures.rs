@@ -122,8 +122,9 @@ impl Case {
         match self.call {
             Call::FromRgba => format!("from_rgba {width} x {height}: {}", planes(&self.filled())),
             Call::ToRgba => {
-                let rgba = self.filled().to_rgba(&exclusive(self.rects[0]));
-                format!("to_rgba {width} x {height}: {}", pixels(&rgba))
+                let (picture, rect) = (self.filled(), exclusive(self.rects[0]));
+                let [u, v] = probe::filtered(&picture, &rect);
+                format!("to_rgba {width} x {height}: {}, filtered {u} {v}", pixels(&picture.to_rgba(&rect)))
             }
             Call::ViewToRgba => {
                 let rgba = view.made().to_rgba();

@@ -93,7 +93,7 @@ fn pass(look: Look, size: Size, rect: Rect, gap: usize) -> Pass {
         let (planes, rest) = black_box(&mut memory).split_at_mut(3 * length);
         let (out, (y, chroma)) = (&mut rest[gap..], planes.split_at(length));
         let (u, v) = chroma.split_at(length);
-        let ours::Answer { number, count } = ours::to_rgba(size, [y, u, v], rect, out);
+        let ours::Pixels { number, count, .. } = ours::to_rgba(size, [y, u, v], rect, out);
         u64::from(number) + count as u64 + sample(out)
     })
 }

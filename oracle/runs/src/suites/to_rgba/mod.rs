@@ -1,10 +1,12 @@
 //! `haythaw_to_rgba` beside `Yuv444Frame::to_rgba`.
 //!
-//! The original answers a `Vec`, so what it answers says how long an output has to be.
+//! The original answers a `Vec`, so what it answers says how long an output has to be. It does not count what it filters: the probe does,
+//! where the original's filter answers another value.
 
 mod bench;
+mod shown;
 
-use original::avc444::Yuv444Frame;
+use original::avc444::{probe, Yuv444Frame};
 
 use super::lengths::changed;
 use super::lists::{self, Rect};
@@ -17,6 +19,7 @@ use crate::random::Random;
 use crate::run::Run;
 
 pub use self::bench::{BENCH, ODD_EDGES, PLACES, SCALE, SMALL_BENCH, SMOOTH_BENCH};
+use self::shown::Shown;
 
 pub const SUITE: Suite = Suite {
     name: "to_rgba",
@@ -43,9 +46,12 @@ impl<'a> Case<'a> {
         Self { sizes, place, planes: noise.planes(place, sizes.lengths), theirs }
     }
 
-    /// What the original answers, and nothing where it has no picture.
-    fn written(&self, rect: Rect) -> Vec<u8> {
-        self.theirs.as_ref().map_or(Vec::new(), |picture| picture.to_rgba(&lists::original_of(rect)))
+    /// What the original answers, and how many samples of U and of V it filtered; nothing where it has no picture.
+    fn written(&self, rect: Rect) -> (Vec<u8>, [usize; 2]) {
+        let rect = lists::original_of(rect);
+        self.theirs
+            .as_ref()
+            .map_or_else(Default::default, |picture| (picture.to_rgba(&rect), probe::filtered(picture, &rect)))
     }
 
     /// The call with an output that is just long enough, and then with one that `way` makes shorter or longer.
@@ -60,13 +66,13 @@ impl<'a> Case<'a> {
     }
 
     /// The call with an output of so many bytes. Refusals: 1, 6.
-    fn check_output(&self, run: &mut Run, rect: Rect, written: &[u8], length: usize) {
+    fn check_output(&self, run: &mut Run, rect: Rect, written: &(Vec<u8>, [usize; 2]), length: usize) {
         let output = Lent::new(length);
         let ours = run.ours(self.our_outcome(rect, output.clone()));
-        run.refused(ours.number);
+        run.refused(ours.outcome.number);
         let theirs = match self.theirs {
-            Some(_) => Outcome::written(written, output),
-            None => Outcome::unwritten(1, vec![output.whole()]),
+            Some(_) => Shown::of(Outcome::written(&written.0, output), written.1),
+            None => Shown::of(Outcome::unwritten(1, vec![output.whole()]), [0, 0]),
         };
         run.compare(&ours, &theirs, self.sizes.weight() + length as u64, || {
             let [left, top, right, bottom] = rect;
@@ -74,9 +80,10 @@ impl<'a> Case<'a> {
         });
     }
 
-    fn our_outcome(&self, rect: Rect, mut output: Lent) -> Outcome {
-        let ours::Answer { number, count } = ours::to_rgba(self.sizes.size, self.planes, rect, output.lent());
-        Outcome { number, count, buffers: vec![output.whole()] }
+    fn our_outcome(&self, rect: Rect, mut output: Lent) -> Shown {
+        let ours::Pixels { number, count, filtered_u, filtered_v } =
+            ours::to_rgba(self.sizes.size, self.planes, rect, output.lent());
+        Shown { outcome: Outcome { number, count, buffers: vec![output.whole()] }, filtered: [filtered_u, filtered_v] }
     }
 }
 
