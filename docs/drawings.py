@@ -619,7 +619,7 @@ def draw_filter():
     assert all(filtered_of(*line[:2]) == line[2] for line in OTHERS)
     x, y = GRAPH.x + kept[0] * GRAPH.across, GRAPH.y - 255 * GRAPH.up
     band = box(x, y, (kept[-1] - kept[0]) * GRAPH.across, 255 * GRAPH.up, '#7cc4ee44')
-    words = ['s = b + c + d', 't = 4a − s, clamped to 0..255', 'answer: a if |t − a| < 30,', 'else t', '', 'Further lines, (a, s) → answer:']
+    words = ['s = b + c + d', 't = 4a − s, clamped to 0..255', 'answer: a if |t − a| < 30,', 'else t: applied', '', 'Further lines, (a, s) → answer:']
     out = [*block_of_four(70, 92), lines(24, 250, words + [f'({b}, {s}) → {answer}' for b, s, answer in OTHERS], 13, 19), band, *axes(),
            text(x + (kept[-1] - kept[0]) * GRAPH.across / 2, y + 16, f's = {kept[0]} to {kept[-1]}:', 12, 'middle'),
            text(x + (kept[-1] - kept[0]) * GRAPH.across / 2, y + 32, 'a is kept', 12, 'middle'),
@@ -627,7 +627,7 @@ def draw_filter():
            curve(lambda s: filtered_of(a, s), GRAPH.most, stroke=BLUE, thick=3.2), *worked_marks(),
            path(f'M{GRAPH.x + 418} 150h34', BLUE, 3.2), text(GRAPH.x + 460, 154, f'answer, a = {a}', 12),
            path(f'M{GRAPH.x + 418} 174h34', RED, 1.4, stroke_dasharray='5 4'), text(GRAPH.x + 460, 178, 't', 12)]
-    said = ('; '.join(words[:3]) + f' else t. For a = {a} the answer over s: a for s = {kept[0]} to {kept[-1]}, t elsewhere. '
+    said = ('; '.join(words[:3]) + f' else t, and then it was applied. For a = {a} the answer over s: a for s = {kept[0]} to {kept[-1]}, t elsewhere. '
             'Worked lines, (a, s) and the answer: ' + ', '.join(f'({b}, {s}) {answer}' for b, s, answer in WORKED) + '.')
     return picture(496, 'The reverse filter of a 2x2 block', said, out)
 

@@ -195,7 +195,7 @@ gate() {
 }
 # What .ci/run runs before the library is made, and over it: the boundary, and the comparison with its self-test.
 before=$(grep -cE '^(tests|docs)/' "$root/.ci/run")
-over=$(($(grep -E '^ +for one in tests/' "$root/.ci/run" | grep -o 'tests/' | wc -l) + 2))
+over=$(($(grep -E '^ +for one in tests/' "$root/.ci/run" | grep -oE '\b(tests|docs)/' | wc -l) + 2))
 gate
 runs .ci/run && check 'the gate' says 0 '^3 passed, 0 failed$'
 check 'it left out nothing' test "$(lines '^ran ') $(lines '^not ')" = "$((before + over)) 0"
