@@ -49,15 +49,24 @@ def block(ink, shape):
     return [ink if inked == '#' else PAPER for inked in SHAPES[shape]]
 
 
+def run(words, **more):
+    try:
+        return subprocess.run(words, check=True, **more)
+    except FileNotFoundError:
+        sys.exit(f'filter.py: there is no command {words[0]}')
+    except subprocess.CalledProcessError as failed:
+        sys.exit(f'filter.py: {os.path.basename(words[0])} ended with status {failed.returncode}')
+
+
 def through_library(blocks):
     """Of each block of four pixels: whether U and whether V was filtered, and the four pixels that came back."""
-    subprocess.run([os.path.join(ROOT, 'oracle', 'library.sh')], check=True, stdout=subprocess.DEVNULL)
+    run([os.path.join(ROOT, 'oracle', 'library.sh')], stdout=subprocess.DEVNULL)
     with tempfile.TemporaryDirectory() as made:
         program = os.path.join(made, 'filter')
-        subprocess.run(['cc', '-std=c99', '-O1', '-Wall', '-Wextra', '-Werror', '-I' + os.path.join(ROOT, 'bind', 'c'),
-                        os.path.join(ROOT, 'docs', 'filter.c'), os.path.join(ROOT, 'oracle', 'build', 'libhaythaw.a'), '-o', program], check=True)
+        run(['cc', '-std=c99', '-O1', '-Wall', '-Wextra', '-Werror', '-I' + os.path.join(ROOT, 'bind', 'c'),
+             os.path.join(ROOT, 'docs', 'filter.c'), os.path.join(ROOT, 'oracle', 'build', 'libhaythaw.a'), '-o', program])
         given = ''.join(' '.join(str(byte) for pixel in pixels for byte in pixel) + '\n' for pixels in blocks)
-        said = subprocess.run([program], input=given, check=True, capture_output=True, text=True).stdout.splitlines()
+        said = run([program], input=given, stdout=subprocess.PIPE, text=True).stdout.splitlines()
     if len(said) != len(blocks):
         sys.exit(f'filter.py: {len(blocks)} blocks were sent, and {len(said)} came back')
     answers = []
