@@ -1,5 +1,4 @@
--- The average of each block: of a pair of rows one part of the columns after the other, of a plane one pair after the other, and of a plane whose
--- samples are known.
+-- The average of each block: of a pair of rows one part of the columns after the other, of a plane one pair after the other.
 -- Assumes nothing.
 use Prim.Native.Nat.{ℕ, _+_, _*_, _/_, _%_, _-_, _<_, _≤_}
 use native.Mathlib.Nat.{zero-mul, zero-add, add-mul, one-mul, mul-le-mul-right}
@@ -18,11 +17,12 @@ use Rattle.lent.proofs.Cells.{cell-in}
 use Rattle.lent.proofs.Paint.{getD-paint, paint-ext}
 use Rattle.lent.proofs.SoFar.{SoFar}
 use Rattle.lent.proofs.Taken.{within-facts}
-use Rattle.lent.proofs.Painted.{painted-at, painted-is, painted-ext, painted-painted}
+use Rattle.lent.proofs.Painted.{painted-is}
 use Rattle.colour.specs.Colour.{averageOf}
 use Rattle.from_rgba.specs.Averaged.{averaged}
 use Rattle.lent.proofs.ByPart.{so-far-past, so-far-within}
 use Rattle.lent.proofs.ManyRows.{rows-kept, many-more}
+use Rattle.from_rgba.proofs.Passes.{Local}
 
 -- ---- what `averaged` says at a place
 
@@ -165,14 +165,8 @@ module _ (w h : ℕ) (xs : List ℕ) (fits : h * w ≤ length xs) (even-w : w % 
           ∙ ap (λ (k : ℕ). getD was k 0) (omega (arith, a-is, start))
           ∙ rows-kept w h (averaged (sample xs w)) xs fits row (row + r) c before (omega arith) (omega arith) hc
 
--- ---- a plane whose samples are known
+-- ---- the average reads no sample from outside the plane
 
--- the averages of a plane that was written whole are those of what was written
-pub averaged-painted : (w h : ℕ) (p : ℕ → ℕ → ℕ) (xs : List ℕ) → h * w ≤ length xs → w % 2 ≡ 0 → h % 2 ≡ 0
-    → painted w h whole (averaged (sample (painted w h whole p xs) w)) (painted w h whole p xs) ≡ painted w h whole (averaged p) xs
-unfolding sample
-averaged-painted w h p xs fits ew eh =
-    painted-painted w h whole whole p _ xs
-    ∙ painted-ext w h _ _ _ _ xs (λ r c hr hc. refl)
-    (λ r c hr hc t. averaged-same (sample (painted w h whole p xs) w) p w h 0 r c ew eh refl hr hc (λ a b ha hb ge. painted-at w h whole p xs a b ha hb fits ∙ ap (λ (m : ℕ). p m b) (sym (zero-add a)))
-    ∙ ap (λ (m : ℕ). averaged p m c) (zero-add r))
+pub averaged-local : (w h : ℕ) → w % 2 ≡ 0 → h % 2 ≡ 0 → Local w h averaged
+averaged-local w h ew eh p q same r c hr hc =
+    averaged-same p q w h 0 r c ew eh refl hr hc (λ a b ha hb ge. same a b ha hb ∙ ap (λ (m : ℕ). q m b) (sym (zero-add a))) ∙ ap (λ (m : ℕ). averaged q m c) (zero-add r)

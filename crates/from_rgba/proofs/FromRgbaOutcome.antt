@@ -1,17 +1,16 @@
--- When `from_rgba` refuses, what it leaves where it does not, that its outcome is the only one, and what of the input has no part in it.
+-- When from RGBA refuses, what it leaves where it does not, that its outcome is the only one, and what of the input has no part in it. By either
+-- edge rule.
 -- Assumes nothing.
 use Prim.Native.Nat.{ℕ, _+_, _*_, _<_, _≤_}
 use native.Mathlib.Nat.{add-zero}
 use native.Mathlib.Omega.{arith}
-use mathlib.Core.Path.{_≡_, refl, ap, _∙_}
-use mathlib.Core.Bool.{true, false, cond}
+use mathlib.Core.Path.{_≡_, refl, ap}
+use mathlib.Core.Bool.{true, cond}
 use mathlib.Core.Logic.{_↔_, _⊎_, Iff·trans, Iff·and, true-and, and-true}
 use mathlib.Core.List.{List, [], _∷_}
 use lib.ListN.{length, getD}
 use Rattle.lent.specs.Outcome.{answerOf, lentAfter}
-use Rattle.lent.specs.Paint.{painted, whole}
 use Rattle.lent.specs.Refusal.{refusal}
-use Rattle.lent.specs.Samples.{sample}
 use Rattle.lent.specs.declared.Answer.{Answer}
 use Rattle.lent.proofs.Bools.{cond-ext}
 use Rattle.lent.proofs.Exactly.{below, not-below}
@@ -20,11 +19,14 @@ use Rattle.lent.proofs.Refusal.{refusal-exactly, refusal-none}
 use Rattle.lent.proofs.Outcome.{outcome-unique}
 use Rattle.colour.specs.Colour.{forwardOf}
 use Rattle.colour.specs.declared.Yuv.{Yuv}
+use Rattle.from_rgba.specs.declared.edges.Edge.{Edge}
 use Rattle.from_rgba.specs.Averaged.{averaged}
 use Rattle.picture.specs.declared.Size.{Size}
 use Rattle.picture.specs.Sizes.{strideOf, rowsOf, planesShort, PlanesFit, planeOf}
-use Rattle.from_rgba.specs.FromRgba.{convertedOf, inPicture, SamePixels, rgbaShort, fromNumberOf, fromBuffersOf, FromRgbaOutcome}
-use Rattle.from_rgba.proofs.Blocks.{averaged-painted}
+use Rattle.from_rgba.specs.FromRgba.{convertedOf, inPicture, withEdge, SamePixels, rgbaShort, fromNumberOf, fromBuffersOf, FromRgbaOutcome}
+use Rattle.from_rgba.proofs.Passes.{Local}
+use Rattle.from_rgba.proofs.Blocks.{averaged-local}
+use Rattle.from_rgba.proofs.EdgeLaws.{edged-local}
 use Rattle.from_rgba.specs.Rows.{colourAt}
 use Rattle.from_rgba.proofs.Padding.{inside-facts}
 
@@ -50,20 +52,20 @@ FromInput = List ℕ × Size × List ℕ × List ℕ × List ℕ
 abbrev pub fromAnswerOf : FromInput → Answer
 fromAnswerOf i = answerOf (fromNumberOf (i .1) (length (i .0)) (length (i .2)) (length (i .3)) (length (i .4))) 0
 
-abbrev pub fromBuffers : FromInput → List (List ℕ)
-fromBuffers i = fromBuffersOf (i .0) (i .1) (i .2) (i .3) (i .4)
+abbrev pub fromBuffers : Edge → FromInput → List (List ℕ)
+fromBuffers e i = fromBuffersOf e (i .0) (i .1) (i .2) (i .3) (i .4)
 
-pub from-unique : (px : List ℕ) (z : Size) (y u v : List ℕ) (r q : Answer) (rs qs : List (List ℕ))
-    → FromRgbaOutcome px z y u v r rs → FromRgbaOutcome px z y u v q qs → (r ≡ q) × (rs ≡ qs)
-from-unique px z y u v = outcome-unique fromAnswerOf fromBuffers (px, z, y, u, v)
+pub from-unique : (e : Edge) (px : List ℕ) (z : Size) (y u v : List ℕ) (r q : Answer) (rs qs : List (List ℕ))
+    → FromRgbaOutcome e px z y u v r rs → FromRgbaOutcome e px z y u v q qs → (r ≡ q) × (rs ≡ qs)
+from-unique e px z y u v = outcome-unique fromAnswerOf (fromBuffers e) (px, z, y, u, v)
 
--- a plane that was written whole, then averaged
-pub plane-averaged : (z : Size) (p : ℕ → ℕ → ℕ) (xs : List ℕ) {ys zs : List ℕ} {stride rows : ℕ} → rowsOf z * strideOf z ≤ length xs → stride ≡ strideOf z → rows ≡ rowsOf z
-    → ys ≡ planeOf z p xs → zs ≡ painted stride rows whole (averaged (sample ys stride)) ys → zs ≡ planeOf z (averaged p) xs
-plane-averaged z p xs fits w-is h-is ys-is zs-is =
-    zs-is
-    ∙ (λ i. painted (w-is i) (h-is i) whole (averaged (sample (ys-is i) (w-is i))) (ys-is i))
-    ∙ averaged-painted (strideOf z) (rowsOf z) p xs fits (omega arith) (omega arith)
+-- the three planes' passes read no sample from outside the plane
+module _ (z : Size) where
+  pub edge-local : (e : Edge) → Local (strideOf z) (rowsOf z) (withEdge e z)
+  edge-local e = edged-local e (strideOf z) (rowsOf z) (z .width) (z .height) (omega arith) (omega arith)
+
+  pub average-local : Local (strideOf z) (rowsOf z) averaged
+  average-local = averaged-local (strideOf z) (rowsOf z) (omega arith) (omega arith)
 
 -- ---- alpha, and input past the pixels, reach no answer
 
@@ -78,14 +80,14 @@ module _ (z : Size) (px qx : List ℕ) (agree : SamePixels z px qx) where
   plane-same : (pick : Yuv → ℕ) (pad r c : ℕ) → cond (inPicture z r c) (pick (convertedOf px z r c)) pad ≡ cond (inPicture z r c) (pick (convertedOf qx z r c)) pad
   plane-same pick pad r c = cond-ext (inPicture z r c) (inPicture z r c) _ _ pad refl (λ e. ap pick (pixel r c e))
 
-  pub from-same : (y u v : List ℕ) → rgbaShort z (length px) ≡ rgbaShort z (length qx) → (fromAnswerOf (px, z, y, u, v) ≡ fromAnswerOf (qx, z, y, u, v)) × (fromBuffersOf px z y u v ≡ fromBuffersOf qx z y u v)
+  pub from-same : (e : Edge) (y u v : List ℕ) → rgbaShort z (length px) ≡ rgbaShort z (length qx) → (fromAnswerOf (px, z, y, u, v) ≡ fromAnswerOf (qx, z, y, u, v)) × (fromBuffersOf e px z y u v ≡ fromBuffersOf e qx z y u v)
   unfolding fromBuffersOf
-  from-same y u v short =
+  from-same e y u v short =
       let number : fromNumberOf z (length px) (length y) (length u) (length v) ≡ fromNumberOf z (length qx) (length y) (length u) (length v) = λ i. refusal ((short i, 2) ∷ (planesShort z (length y) (length u) (length v), 1) ∷ []) in (
         ap (λ (n : ℕ). answerOf n 0) number,
         λ i.
-            lentAfter (number i) y (planeOf z (λ r c. plane-same (λ p. p .y) 0 r c i) y)
-            ∷ lentAfter (number i) u (planeOf z (averaged (λ r c. plane-same (λ p. p .u) 128 r c i)) u)
-            ∷ lentAfter (number i) v (planeOf z (averaged (λ r c. plane-same (λ p. p .v) 128 r c i)) v)
+            lentAfter (number i) y (planeOf z (withEdge e z (λ r c. plane-same (λ p. p .y) 0 r c i)) y)
+            ∷ lentAfter (number i) u (planeOf z (averaged (withEdge e z (λ r c. plane-same (λ p. p .u) 128 r c i))) u)
+            ∷ lentAfter (number i) v (planeOf z (averaged (withEdge e z (λ r c. plane-same (λ p. p .v) 128 r c i))) v)
             ∷ [],
       )

@@ -10,7 +10,7 @@ use lib.Dec.{ltb}
 use borrow.Author.Tests.{lt-ltb, le-ltb, le-leb, lt-leb, ltb-true}
 use Rattle.lent.specs.Paint.{painted, whole, within}
 use Rattle.lent.specs.Sizes.{roundUp}
-use Rattle.lent.proofs.Bools.{split, both-left, both-right}
+use Rattle.lent.proofs.Bools.{split, both, both-left, both-right}
 use Rattle.lent.proofs.Painted.{painted-ext, painted-painted}
 use Rattle.from_rgba.specs.Rows.{inside, paddingFromOf}
 
@@ -29,6 +29,10 @@ module _ (width height row c : ℕ) where
   pub inside-facts : inside width height row c ≡ true → (row < height) × (c < width)
   unfolding inside
   inside-facts e = (ltb-true row height (both-left _ _ e), ltb-true c width (both-right (ltb row height) _ e))
+
+  pub inside-holds : row < height → c < width → inside width height row c ≡ true
+  unfolding inside
+  inside-holds hr hc = both _ _ (lt-ltb row height hr) (lt-ltb c width hc)
 
   pub padding-row : c < roundUp 16 width → not (inside width height row c) ≡ within (paddingFromOf width height row) (roundUp 16 width) c
   unfolding inside within

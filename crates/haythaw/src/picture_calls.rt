@@ -1,4 +1,4 @@
-// A 4:4:4 picture over three lent planes: its size in bytes, a fresh one, and one of RGBA pixels.
+// A 4:4:4 picture over three lent planes: its size in bytes, a fresh one, and one of RGBA pixels by either edge rule.
 ghost use mathlib.Core.Path.{_≡_};
 ghost use mathlib.Core.List.{[], _∷_};
 ghost use lib.ListN.{length};
@@ -6,6 +6,7 @@ ghost use Rattle.lent.specs.Outcome.{Outcome};
 ghost use Rattle.picture.specs.Sizes.{allocationSizeOf};
 ghost use Rattle.picture.specs.New.{newNumberOf, newBuffersOf};
 ghost use Rattle.from_rgba.specs.FromRgba.{fromNumberOf, fromBuffersOf};
+ghost use Rattle.from_rgba.specs.declared.edges.Edge.the-variants.{Fresh, Filled};
 ghost use Rattle.haythaw.specs.Sizes.{sizeOf};
 use picture::Size;
 
@@ -34,7 +35,7 @@ pub extern "C" fn haythaw_new(
     picture::new(Size { width, height }, y, u, v).number
 }
 
-// The picture of width x height RGBA pixels. 0, 2 or 1.
+// The picture of width x height RGBA pixels, its edge filled. 0, 2 or 1.
 #[no_mangle]
 pub extern "C" fn haythaw_from_rgba(
     rgba: &[u8],
@@ -46,8 +47,26 @@ pub extern "C" fn haythaw_from_rgba(
 ) -> u32
     ensures { λ r. ⌜ Outcome (fromNumberOf (sizeOf width height) (length (now (rgba .entry)))
         (length (now (y .entry))) (length (now (u .entry))) (length (now (v .entry))))
-        (fromBuffersOf (now (rgba .entry)) (sizeOf width height) (now (y .entry)) (now (u .entry)) (now (v .entry)))
+        (fromBuffersOf Filled (now (rgba .entry)) (sizeOf width height) (now (y .entry)) (now (u .entry)) (now (v .entry)))
         r (now (y .exit) ∷ now (u .exit) ∷ now (v .exit) ∷ []) ⌝ }
 {
     from_rgba::from_rgba(rgba, Size { width, height }, y, u, v).number
+}
+
+// The same with padding as in a fresh picture, as the Rust has it. 0, 2 or 1.
+#[no_mangle]
+pub extern "C" fn haythaw_from_rgba_rust(
+    rgba: &[u8],
+    width: u16,
+    height: u16,
+    y: &mut [u8],
+    u: &mut [u8],
+    v: &mut [u8],
+) -> u32
+    ensures { λ r. ⌜ Outcome (fromNumberOf (sizeOf width height) (length (now (rgba .entry)))
+        (length (now (y .entry))) (length (now (u .entry))) (length (now (v .entry))))
+        (fromBuffersOf Fresh (now (rgba .entry)) (sizeOf width height) (now (y .entry)) (now (u .entry)) (now (v .entry)))
+        r (now (y .exit) ∷ now (u .exit) ∷ now (v .exit) ∷ []) ⌝ }
+{
+    from_rgba::from_rgba_rust(rgba, Size { width, height }, y, u, v).number
 }
