@@ -155,12 +155,21 @@ size_t haythaw_allocation_size(uint16_t width, uint16_t height);
 uint32_t haythaw_new(uint16_t width, uint16_t height, uint8_t *y, size_t y_count, uint8_t *u, size_t u_count,
                      uint8_t *v, size_t v_count);
 
-/* The picture of width x height RGBA pixels: each converted, then U and V of every 2x2 block's even-even place replaced by the
- * block's average. Padding is as in a fresh picture before the averages. Alpha, and input after width x height x 4 bytes,
- * is ignored.
+/* The picture of width x height RGBA pixels: each converted, then the edge filled, then U and V of every 2x2 block's even-even
+ * place replaced by the block's average. The edge is filled in y, u and v: the last picture column goes into the padding right of
+ * it, then the last picture row, full by then, into the rows below. So each sample of the padding is the nearest one of the
+ * picture before the averages, and those at the edge have no other colour in them. Where a side is 0 the planes have no bytes, and
+ * none is written. Alpha, and input after width x height x 4 bytes, is ignored.
  * Answers 0, 2 or 1, in this order of refusals. Writes the first stride x rows bytes of y, u and v; bytes after them stay. */
 uint32_t haythaw_from_rgba(const uint8_t *rgba, size_t rgba_count, uint16_t width, uint16_t height,
                            uint8_t *y, size_t y_count, uint8_t *u, size_t u_count, uint8_t *v, size_t v_count);
+
+/* The same as the Rust original has it: the edge is not filled, and padding as in a fresh picture (Y 0, U and V 128) enters the
+ * last averages: those of the last column where the width is odd, and of the last row where the height is. Both calls agree where
+ * both sides are multiples of 16.
+ * Answers 0, 2 or 1, in this order of refusals. Writes the first stride x rows bytes of y, u and v; bytes after them stay. */
+uint32_t haythaw_from_rgba_rust(const uint8_t *rgba, size_t rgba_count, uint16_t width, uint16_t height,
+                                uint8_t *y, size_t y_count, uint8_t *u, size_t u_count, uint8_t *v, size_t v_count);
 
 /* The rectangle's pixels as RGBA, alpha 255. The rectangle is clipped to the picture; an empty one writes nothing, with number 0
  * and all counts 0. At pixels of even row and even column of the picture U and V go through the reverse filter on their way, which
