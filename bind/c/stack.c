@@ -28,6 +28,7 @@ static enum call chosen;
     }
 ALONE(do_new, haythaw_new(PICTURE))
 ALONE(do_from_rgba, haythaw_from_rgba(LENT(RGBA), PICTURE))
+ALONE(do_from_rgba_rust, haythaw_from_rgba_rust(LENT(RGBA), PICTURE))
 ALONE(do_to_rgba, haythaw_to_rgba(PICTURE, a->left, a->top, a->right, a->bottom, LENT(OUT)))
 ALONE(do_main, haythaw_apply_main_view(PICTURE, LENT(RECTS), A_VIEW))
 ALONE(do_aux_v1, haythaw_apply_auxiliary_v1(PICTURE, LENT(RECTS), A_VIEW))
@@ -52,7 +53,7 @@ ALONE(do_write, haythaw_avc444_write(a->kind, BOTH_STREAMS, LENT(OUT)))
 ALONE(do_allocation_size, haythaw_allocation_size(a->width, a->height))
 
 static void (*const alone[CALLS + 1])(const Args *) = {
-    do_new, do_from_rgba, do_to_rgba, do_main, do_aux_v1, do_aux_v2, do_split_v1, do_split_v2, do_view,
+    do_new, do_from_rgba, do_from_rgba_rust, do_to_rgba, do_main, do_aux_v1, do_aux_v2, do_split_v1, do_split_v2, do_view,
     do_luma_row, do_u_row, do_v_row, do_view_to_rgba, do_is_avc, do_annex_b, do_read, do_luma_rectangle, do_chroma_rectangle,
     do_luma_pair, do_chroma_pair, do_luma_rects, do_chroma_rects, do_write, do_allocation_size};
 

@@ -5,6 +5,7 @@
  * left out, where something was. The last line is `c: N checks, 0 wrong`, and the status is 1 where one is wrong. */
 #define _DEFAULT_SOURCE
 #include "test/by_hand.h"
+#include "test/edges.h"
 #include "test/far.h"
 #include "test/lengths.h"
 #include "test/results.h"
@@ -72,6 +73,11 @@ int main(int words, char **word)
         sizes_by_hand();
         new_by_hand();
         from_rgba_by_hand();
+        one_pixel_by_hand();
+        from_rgba_rust_by_hand();
+        edges_by_the_rule();
+        both_edges();
+        no_side_by_hand();
         to_rgba_by_hand();
         filter_by_hand();
         filtered_by_hand();

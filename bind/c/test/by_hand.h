@@ -23,24 +23,71 @@ static void new_by_hand(void)
     over(NEW);
 }
 
-/* Red, white and blue in a row. Y U V are 53 99 255, 254 128 128, 17 255 116 by the formulas; the two blocks have 128 in
- * their other places, so the averages are U (99+3*128+2)/4 = 121, V (255+3*128+2)/4 = 160, and U 160, V (116+3*128+2)/4 = 125. */
+/* Red, white and blue in a row, and a byte after them: Y U V are 53 99 255, 254 128 128, 17 255 116 by the formulas. */
+static const uint8_t three_pixels[13] = {255, 0, 0, 0, 255, 255, 255, 9, 0, 0, 255, 255, 77};
+
+static Args three_by_one(size_t extra)
+{
+    Args a = {0};
+    picture(&a, 3, 1, 256 + extra);
+    lend_as(&a, RGBA, 12 + extra, three_pixels);
+    return a;
+}
+
+/* A row of 16 samples: its first three, and the same one in all places after them. */
+static bool row_is(const uint8_t *row, const uint8_t first[3], uint8_t rest)
+{
+    return memcmp(row, first, 3) == 0 && all_are(row + 3, 13, rest);
+}
+
+/* The edge is filled: columns 3 to 15 are blue, and rows 1 to 15 are row 0 again. So the first block of each two rows is red, white, red,
+ * white, with the averages U (99+128+99+128+2)/4 = 114 and V (255+128+255+128+2)/4 = 192; every other block is blue four times, and its
+ * averages are blue's own, U (4*255+2)/4 = 255 and V (4*116+2)/4 = 116. Odd rows have no average. */
 static void from_rgba_by_hand(void)
 {
-    static const uint8_t rgba[13] = {255, 0, 0, 0, 255, 255, 255, 9, 0, 0, 255, 255, 77};
-    static const uint8_t y[4] = {53, 254, 17, 0}, u[4] = {121, 128, 160, 128}, v[4] = {160, 128, 125, 128};
+    static const uint8_t y[3] = {53, 254, 17}, u[2][3] = {{114, 128, 255}, {99, 128, 255}}, v[2][3] = {{192, 128, 116}, {255, 128, 116}};
     for (size_t extra = 0; extra < 2; extra++) {
-        Args a = {0};
-        picture(&a, 3, 1, 256 + extra);
-        lend_as(&a, RGBA, 12 + extra, rgba);
+        Args a = three_by_one(extra);
         Result r = tried(FROM_RGBA, &a);
         check(is_refusal(&r, 0), "from_rgba", "the number");
         const uint8_t *py = a.at[Y], *pu = a.at[U], *pv = a.at[V];
-        check(memcmp(py, y, 4) == 0 && all_are(py + 4, 252, 0), "from_rgba", "Y");
-        check(memcmp(pu, u, 4) == 0 && all_are(pu + 4, 252, 128), "from_rgba", "U");
-        check(memcmp(pv, v, 4) == 0 && all_are(pv + 4, 252, 128), "from_rgba", "V");
+        for (size_t row = 0; row < 16; row++) {
+            check(row_is(py + 16 * row, y, 17), "from_rgba", "a row of Y");
+            check(row_is(pu + 16 * row, u[row % 2], 255), "from_rgba", "a row of U");
+            check(row_is(pv + 16 * row, v[row % 2], 116), "from_rgba", "a row of V");
+        }
         check(kept_from(py, 256) && kept_from(pu, 256) && kept_from(pv, 256) && kept_from(a.at[RGBA], 0), "from_rgba", "the rest");
         over(FROM_RGBA);
+    }
+}
+
+/* One red pixel: it is the nearest one of every place, and each block is red four times: U (4*99+2)/4 = 99, V (4*255+2)/4 = 255. */
+static void one_pixel_by_hand(void)
+{
+    Args a = {0};
+    picture(&a, 1, 1, 256);
+    lend_as(&a, RGBA, 4, three_pixels);
+    Result r = tried(FROM_RGBA, &a);
+    check(is_refusal(&r, 0), "from_rgba", "the number of one pixel");
+    check(all_are(a.at[Y], 256, 53) && all_are(a.at[U], 256, 99) && all_are(a.at[V], 256, 255), "from_rgba", "one pixel");
+    over(FROM_RGBA);
+}
+
+/* The edge is not filled: the two blocks of the three pixels have 128 in their other places, so the averages are U (99+3*128+2)/4 = 121,
+ * V (255+3*128+2)/4 = 160, and U (255+3*128+2)/4 = 160, V (116+3*128+2)/4 = 125. */
+static void from_rgba_rust_by_hand(void)
+{
+    static const uint8_t y[4] = {53, 254, 17, 0}, u[4] = {121, 128, 160, 128}, v[4] = {160, 128, 125, 128};
+    for (size_t extra = 0; extra < 2; extra++) {
+        Args a = three_by_one(extra);
+        Result r = tried(FROM_RGBA_RUST, &a);
+        check(is_refusal(&r, 0), "from_rgba_rust", "the number");
+        const uint8_t *py = a.at[Y], *pu = a.at[U], *pv = a.at[V];
+        check(memcmp(py, y, 4) == 0 && all_are(py + 4, 252, 0), "from_rgba_rust", "Y");
+        check(memcmp(pu, u, 4) == 0 && all_are(pu + 4, 252, 128), "from_rgba_rust", "U");
+        check(memcmp(pv, v, 4) == 0 && all_are(pv + 4, 252, 128), "from_rgba_rust", "V");
+        check(kept_from(py, 256) && kept_from(pu, 256) && kept_from(pv, 256) && kept_from(a.at[RGBA], 0), "from_rgba_rust", "the rest");
+        over(FROM_RGBA_RUST);
     }
 }
 

@@ -25,6 +25,7 @@ static const uint8_t the_payload[46] = {17, 0, 0, 0, 1, 0, 0, 0, 1, 0, 2, 0, 3, 
 static const struct { size_t used; Need needs[9]; } needs[CALLS] = {
     [NEW] = {3, {PLANES}},
     [FROM_RGBA] = {4, {{RGBA, 204, 2, 2}, PLANES}},
+    [FROM_RGBA_RUST] = {4, {{RGBA, 204, 2, 2}, PLANES}},
     [TO_RGBA] = {4, {PLANES, {OUT, 128, 6, 6}}},
     [MAIN] = {7, {PLANES, {RECTS, 4, 7, 0}, THE_VIEW}},
     [AUX_V1] = {7, {PLANES, {RECTS, 4, 7, 0}, THE_VIEW}},

@@ -93,10 +93,18 @@ static void result_of_picture(void)
     check(haythaw_new(2, 1, y, 256, u, 256, v, 255) == HAYTHAW_PLANE_SHORT && y[0] == 1 && u[0] == 0, "new", "a refusal");
     check(haythaw_new(2, 1, y, 256, u, 256, v, 256) == HAYTHAW_DONE && y[0] == 0 && u[255] == 128 && v[0] == 128, "new", "a picture");
 
+    /* Red and green, and in the rows below the same again: U (99 + 29 + 99 + 29 + 2)/4 = 64, V (255 + 12 + 255 + 12 + 2)/4 = 134. */
     const uint8_t rgba[8] = {255, 0, 0, 255, 0, 255, 0, 255};
     check(haythaw_from_rgba(rgba, 7, 2, 1, y, 256, u, 256, v, 256) == HAYTHAW_RGBA_SHORT, "from_rgba", "a refusal");
     check(haythaw_from_rgba(rgba, 8, 2, 1, y, 256, u, 256, v, 256) == HAYTHAW_DONE, "from_rgba", "a number");
-    check(y[0] == 53 && y[1] == 182 && u[0] == 96 && u[1] == 29 && v[0] == 131 && v[1] == 12, "from_rgba", "a picture");
+    check(y[0] == 53 && y[1] == 182 && u[0] == 64 && u[1] == 29 && v[0] == 134 && v[1] == 12, "from_rgba", "a picture");
+    check(y[16] == 53 && u[16] == 99 && v[16] == 255 && y[255] == 182 && u[255] == 29 && v[255] == 12, "from_rgba", "its edge");
+
+    /* Or 128 in the row below: U (99 + 29 + 128 + 128 + 2)/4 = 96, V (255 + 12 + 128 + 128 + 2)/4 = 131. */
+    check(haythaw_from_rgba_rust(rgba, 7, 2, 1, y, 256, u, 256, v, 256) == HAYTHAW_RGBA_SHORT, "from_rgba_rust", "a refusal");
+    check(haythaw_from_rgba_rust(rgba, 8, 2, 1, y, 256, u, 256, v, 256) == HAYTHAW_DONE, "from_rgba_rust", "a number");
+    check(y[0] == 53 && y[1] == 182 && u[0] == 96 && u[1] == 29 && v[0] == 131 && v[1] == 12, "from_rgba_rust", "a picture");
+    check(y[16] == 0 && u[16] == 128 && v[16] == 128 && y[255] == 0 && u[255] == 128 && v[255] == 128, "from_rgba_rust", "its edge");
 
     uint8_t out[8] = {0};
     const uint8_t pixels[8] = {252, 0, 0, 255, 0, 254, 0, 255};

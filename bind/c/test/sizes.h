@@ -47,7 +47,7 @@ static uint32_t the_number(enum call call, const Args *a)
 {
     switch (call) {
     case NEW: return plane_short(a) ? 1 : 0;
-    case FROM_RGBA: return a->count[RGBA] < (size_t)4 * a->width * a->height ? 2 : plane_short(a) ? 1 : 0;
+    case FROM_RGBA: case FROM_RGBA_RUST: return a->count[RGBA] < (size_t)4 * a->width * a->height ? 2 : plane_short(a) ? 1 : 0;
     case TO_RGBA: return plane_short(a) ? 1 : a->count[OUT] < clipped(a) ? 6 : 0;
     case MAIN: case AUX_V1: case AUX_V2: return plane_short(a) ? 1 : a->count[RECTS] % 4 != 0 ? 7 : view_number(a);
     case SPLIT_V1: case SPLIT_V2: return split_number(a);
@@ -167,6 +167,7 @@ static void longest_sides(void)
         check(memcmp((uint8_t *)a.at[OUT] + 65534 * 4, black, 4) == 0, "to_rgba", "the last pixel of the longest side");
         a.at[RGBA] = a.at[OUT], a.count[RGBA] = a.count[OUT];
         by_table(FROM_RGBA, &a, "the longest side");
+        by_table(FROM_RGBA_RUST, &a, "the longest side");
         by_table(SPLIT_V1, &a, "the longest side");
         by_table(SPLIT_V2, &a, "the longest side");
         over(NEW);
