@@ -62,6 +62,9 @@ pub struct FilterCounts {
     pub v: usize,
 }
 
+/// A call of the library that makes a picture of RGBA pixels: 0, 2 or 1.
+type Making = fn(&[u8], Size, [&mut [u8]; 3]) -> u32;
+
 impl Yuv444Frame {
     /// A black picture.
     ///
@@ -84,6 +87,9 @@ impl Yuv444Frame {
     ///
     /// Alpha is ignored, and so is what follows the last pixel. `None` when `rgba` is shorter than `width * height * 4` bytes.
     ///
+    /// The padding is as the original has it, that of a fresh picture, and enters the averages of the last column where the width is
+    /// odd, and of the last row where the height is. [`Self::from_rgba_filled`] keeps it out of them.
+    ///
     /// ```
     /// use haythaw::avc444::Yuv444Frame;
     ///
@@ -91,15 +97,40 @@ impl Yuv444Frame {
     /// assert!(Yuv444Frame::from_rgba(&[0; 23], 3, 2).is_none());
     /// ```
     pub fn from_rgba(rgba: &[u8], width: u16, height: u16) -> Option<Self> {
-        // Pixels that are too few (2) are refused before planes that are too short (1). So the library is asked over no planes first,
-        // and a picture that there will not be is never allocated.
-        if library::from_rgba(rgba, Size { width, height }, [&mut [], &mut [], &mut []]) == 2 {
-            return None;
-        }
-        let mut picture = Self::blank(width, height);
-        let (size, planes) = picture.lent_mut();
-        library::done("from_rgba", library::from_rgba(rgba, size, planes));
-        Some(picture)
+        Self::of_pixels(library::from_rgba_rust, rgba, width, height)
+    }
+
+    /// The same picture with its edge filled, which the original has no call for.
+    ///
+    /// Before the averages the last picture column goes into the padding right of it, and then the last picture row into the rows
+    /// below, in all three planes: each sample of the padding is the nearest one of the picture. So a main view that comes alone shows
+    /// the last column and row with no other colour mixed in. Where both sides are multiples of 16, this and [`Self::from_rgba`] are
+    /// the same.
+    ///
+    /// `None` when `rgba` is shorter than `width * height * 4` bytes.
+    ///
+    /// ```
+    /// use haythaw::avc444::{Avc444Layout, Yuv444Frame};
+    /// use haythaw::geometry::ExclusiveRectangle;
+    ///
+    /// // What the main view alone shows in the last column of a picture that is 5 pixels wide.
+    /// let whole = ExclusiveRectangle { left: 0, top: 0, right: 5, bottom: 2 };
+    /// let last = ExclusiveRectangle { left: 4, top: 0, right: 5, bottom: 1 };
+    /// let shown = |sent: Yuv444Frame| {
+    ///     let (main, _) = sent.split(Avc444Layout::V2).expect("no side is above 65,520");
+    ///     let mut picture = Yuv444Frame::new(5, 2);
+    ///     picture.apply_main_view(&main, &[whole]);
+    ///     picture.to_rgba(&last)
+    /// };
+    ///
+    /// let red = [255, 0, 0, 255].repeat(5 * 2);
+    /// assert_eq!(shown(Yuv444Frame::from_rgba_filled(&red, 5, 2).expect("5 x 2 pixels")), [252, 0, 0, 255]);
+    /// assert_eq!(shown(Yuv444Frame::from_rgba(&red, 5, 2).expect("5 x 2 pixels")), [153, 25, 27, 255]);
+    ///
+    /// assert!(Yuv444Frame::from_rgba_filled(&red[1..], 5, 2).is_none());
+    /// ```
+    pub fn from_rgba_filled(rgba: &[u8], width: u16, height: u16) -> Option<Self> {
+        Self::of_pixels(library::from_rgba, rgba, width, height)
     }
 
     /// Bytes that [`Self::new`] allocates for a picture of this size.
@@ -246,6 +277,19 @@ impl Yuv444Frame {
             Yuv420Frame::new(views.width, views.height, y, views.luma_stride, u, v, views.chroma_stride)
         };
         Ok((wrap(main)?, wrap(auxiliary)?))
+    }
+
+    /// The picture that a call of the library makes of RGBA pixels.
+    fn of_pixels(make: Making, rgba: &[u8], width: u16, height: u16) -> Option<Self> {
+        // Pixels that are too few (2) are refused before planes that are too short (1). So the library is asked over no planes first,
+        // and a picture that there will not be is never allocated.
+        if make(rgba, Size { width, height }, [&mut [], &mut [], &mut []]) == 2 {
+            return None;
+        }
+        let mut picture = Self::blank(width, height);
+        let (size, planes) = picture.lent_mut();
+        library::done("from_rgba", make(rgba, size, planes));
+        Some(picture)
     }
 
     /// Planes of this size, for the library to write.

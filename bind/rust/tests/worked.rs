@@ -14,6 +14,26 @@ fn sevens(width: u16, height: u16) -> Yuv420Frame {
     Yuv420Frame::new(width, height, vec![7; w * h], w, chroma.clone(), chroma, w.div_ceil(2)).expect("a whole view")
 }
 
+/// The planes Y, U and V of a picture, padding included, and their stride. In layout V2 odd columns stand in the auxiliary view's luma,
+/// even columns of odd rows in its chroma, and V half or a quarter of the width after U.
+fn planes(picture: &Yuv444Frame) -> (usize, [Vec<u8>; 3]) {
+    let (main, auxiliary) = picture.split(Avc444Layout::V2).expect("no side is above 65,520");
+    let (stride, rows) = (usize::from(main.width()), usize::from(main.height()));
+    let chroma = |row: usize, col: usize, of_v: bool| {
+        let after = if of_v { stride } else { 0 };
+        let (line, at) = match (row % 2, col % 4) {
+            (_, 1 | 3) => (auxiliary.luma_row(row), after / 2 + col / 2),
+            (0, _) => (if of_v { main.v_row(row / 2) } else { main.u_row(row / 2) }, col / 2),
+            (_, 0) => (auxiliary.u_row(row / 2), after / 4 + col / 4),
+            _ => (auxiliary.v_row(row / 2), after / 4 + col / 4),
+        };
+        line.expect("a row")[at]
+    };
+    let plane = |of_v| (0..stride * rows).map(|at| chroma(at / stride, at % stride, of_v)).collect();
+    let luma = (0..rows).flat_map(|row| main.luma_row(row).expect("a row")).copied().collect();
+    (stride, [luma, plane(false), plane(true)])
+}
+
 /// Where luma and where U is 7: the columns of a picture's first row, padding included, and the rows of its first column.
 struct Taken {
     luma_cols: Vec<usize>,
@@ -23,21 +43,10 @@ struct Taken {
 }
 
 fn taken(picture: &Yuv444Frame) -> Taken {
-    let (main, auxiliary) = picture.split(Avc444Layout::V2).expect("no side is above 65,520");
-    let luma = |row: usize, col: usize| main.luma_row(row).expect("a row")[col];
-    let u = |row: usize, col: usize| match (row % 2, col % 4) {
-        (_, 1 | 3) => auxiliary.luma_row(row).expect("a row")[col / 2],
-        (0, _) => main.u_row(row / 2).expect("a row")[col / 2],
-        (_, 0) => auxiliary.u_row(row / 2).expect("a row")[col / 4],
-        _ => auxiliary.v_row(row / 2).expect("a row")[col / 4],
-    };
-    let (cols, rows) = (0..usize::from(main.width()), 0..usize::from(main.height()));
-    Taken {
-        luma_cols: cols.clone().filter(|&col| luma(0, col) == 7).collect(),
-        chroma_cols: cols.filter(|&col| u(0, col) == 7).collect(),
-        luma_rows: rows.clone().filter(|&row| luma(row, 0) == 7).collect(),
-        chroma_rows: rows.filter(|&row| u(row, 0) == 7).collect(),
-    }
+    let (stride, [luma, u, _]) = planes(picture);
+    let cols = |plane: &[u8]| (0..stride).filter(|&col| plane[col] == 7).collect();
+    let rows = |plane: &[u8]| (0..plane.len() / stride).filter(|&row| plane[row * stride] == 7).collect();
+    Taken { luma_cols: cols(&luma), chroma_cols: cols(&u), luma_rows: rows(&luma), chroma_rows: rows(&u) }
 }
 
 #[test]
@@ -135,9 +144,100 @@ fn sides_that_split_and_sides_that_do_not() {
     }
 }
 
+/// Red, white and blue in a row: Y, U and V are 53 99 255, 254 128 128 and 17 255 116.
+const THREE: [u8; 12] = [255, 0, 0, 0, 255, 255, 255, 9, 0, 0, 255, 255];
+
+/// A row that begins with these samples, and then has the last of them 14 times in all.
+fn row([first, second, rest]: [u8; 3]) -> Vec<u8> {
+    [vec![first, second], vec![rest; 14]].concat()
+}
+
+/// Columns 3 to 15 are blue, and rows 1 to 15 are row 0 again. The first block of each two rows is red, white, red, white, and its averages
+/// are U (99 + 128 + 99 + 128 + 2) / 4 = 114 and V (255 + 128 + 255 + 128 + 2) / 4 = 192; every other block is blue four times.
+#[test]
+fn a_filled_edge() {
+    let picture = Yuv444Frame::from_rgba_filled(&THREE, 3, 1).expect("three pixels");
+    let (stride, [y, u, v]) = planes(&picture);
+    assert_eq!((stride, picture.allocated_bytes()), (16, 3 * 256));
+    assert_eq!(y, row([53, 254, 17]).repeat(16));
+    assert_eq!(u, [row([114, 128, 255]), row([99, 128, 255])].concat().repeat(8));
+    assert_eq!(v, [row([192, 128, 116]), row([255, 128, 116])].concat().repeat(8));
+}
+
+/// The padding has Y 0, and U and V 128, and so have the two blocks of the pixels in their other places: the averages are U
+/// (99 + 3 * 128 + 2) / 4 = 121 and 160, and V 160 and (116 + 3 * 128 + 2) / 4 = 125.
+#[test]
+fn an_edge_as_the_original_has_it() {
+    let (_, planes) = planes(&Yuv444Frame::from_rgba(&THREE, 3, 1).expect("three pixels"));
+    let rest = |first: [u8; 4], rest: u8| [&first[..], &[rest; 252]].concat();
+    assert_eq!(planes, [rest([53, 254, 17, 0], 0), rest([121, 128, 160, 128], 128), rest([160, 128, 125, 128], 128)]);
+}
+
+#[test]
+fn one_pixel_fills_its_planes() {
+    let (_, planes) = planes(&Yuv444Frame::from_rgba_filled(&THREE, 1, 1).expect("a pixel"));
+    assert_eq!(planes, [53, 99, 255].map(|sample| vec![sample; 256]));
+}
+
+/// So many pixels, of many colours.
+fn noise(pixels: usize) -> Vec<u8> {
+    (0..4 * pixels).map(|at| (at * 2_654_435_761 >> 13) as u8).collect()
+}
+
+/// The planes of a filled edge by its rule, said again: the sample of the nearest pixel, and then the averages.
+fn nearest(rgba: &[u8], width: usize, height: usize) -> [Vec<u8>; 3] {
+    let (stride, rows) = (width.next_multiple_of(16), height.next_multiple_of(16));
+    [[54, 183, 18, 0], [-29, -99, 128, 128], [128, -116, -12, 128]].map(|[r, g, b, more]| {
+        let sample = |row: usize, col: usize| {
+            let pixel = &rgba[4 * (row.min(height - 1) * width + col.min(width - 1))..];
+            let [red, green, blue] = [0, 1, 2].map(|channel| i32::from(pixel[channel]));
+            (r * red + g * green + b * blue).div_euclid(256) + more
+        };
+        let left = |at: usize| match (at / stride, at % stride) {
+            (row, col) if more == 128 && row % 2 == 0 && col % 2 == 0 => {
+                (sample(row, col) + sample(row, col + 1) + sample(row + 1, col) + sample(row + 1, col + 1) + 2) / 4
+            }
+            (row, col) => sample(row, col),
+        };
+        (0..stride * rows).map(|at| left(at) as u8).collect()
+    })
+}
+
+#[test]
+fn each_sample_of_a_filled_edge_is_the_nearest() {
+    for (width, height) in [(1, 1), (5, 5), (15, 16), (16, 16), (17, 16), (16, 17), (33, 31)] {
+        let rgba = noise(width * height);
+        let picture = Yuv444Frame::from_rgba_filled(&rgba, width as u16, height as u16).expect("the pixels are enough");
+        assert!(planes(&picture).1 == nearest(&rgba, width, height), "{width} x {height}");
+    }
+}
+
+#[test]
+fn both_edges_agree_on_whole_macroblocks() {
+    for (width, height, alike) in [(16, 16, true), (48, 32, true), (5, 5, false), (17, 16, false), (16, 17, false)] {
+        let rgba = noise(usize::from(width) * usize::from(height));
+        let [filled, fresh] = [Yuv444Frame::from_rgba_filled, Yuv444Frame::from_rgba]
+            .map(|make| planes(&make(&rgba, width, height).expect("the pixels are enough")).1);
+        assert_eq!(filled == fresh, alike, "{width} x {height}");
+    }
+}
+
+#[test]
+fn a_side_of_0_has_no_edge() {
+    for (width, height) in [(0, 0), (0, 5), (5, 0), (65_535, 0)] {
+        let picture = Yuv444Frame::from_rgba_filled(&[], width, height).expect("no pixels");
+        assert_eq!((picture.width(), picture.height(), picture.allocated_bytes()), (width, height, 0));
+    }
+}
+
 #[test]
 fn pixels_that_are_too_few_for_a_large_picture_allocate_nothing() {
-    assert!(Yuv444Frame::from_rgba(&[0; 64], 65_535, 65_535).is_none());
+    for make in [Yuv444Frame::from_rgba, Yuv444Frame::from_rgba_filled] {
+        assert!(make(&[0; 64], 65_535, 65_535).is_none());
+        assert!(make(&[0; 59], 5, 3).is_none());
+        assert!(make(&[0; 60], 5, 3).is_some());
+        assert!(make(&[0; 61], 5, 3).is_some());
+    }
 }
 
 #[test]

@@ -21,18 +21,6 @@ unsafe extern "C" {
         v: *mut u8,
         v_count: usize,
     ) -> u32;
-    fn haythaw_from_rgba(
-        rgba: *const u8,
-        rgba_count: usize,
-        width: u16,
-        height: u16,
-        y: *mut u8,
-        y_count: usize,
-        u: *mut u8,
-        u_count: usize,
-        v: *mut u8,
-        v_count: usize,
-    ) -> u32;
 }
 
 /// Bytes of the three planes together.
@@ -48,22 +36,50 @@ pub fn new(Size { width, height }: Size, [y, u, v]: [&mut [u8]; 3]) -> u32 {
     unsafe { haythaw_new(width, height, y.as_mut_ptr(), y.len(), u.as_mut_ptr(), u.len(), v.as_mut_ptr(), v.len()) }
 }
 
-/// The picture of RGBA pixels. 0, 2 or 1.
-#[inline]
-pub fn from_rgba(rgba: &[u8], Size { width, height }: Size, [y, u, v]: [&mut [u8]; 3]) -> u32 {
-    // SAFETY: each pointer and count are of one slice, and the three that are written are borrowed for that alone.
-    unsafe {
-        haythaw_from_rgba(
-            rgba.as_ptr(),
-            rgba.len(),
-            width,
-            height,
-            y.as_mut_ptr(),
-            y.len(),
-            u.as_mut_ptr(),
-            u.len(),
-            v.as_mut_ptr(),
-            v.len(),
-        )
-    }
+/// Declares functions of the library that make a picture of RGBA pixels, and each in safe Rust.
+macro_rules! making {
+    ($($(#[$about:meta])* $name:ident is $symbol:ident;)*) => {
+        // The names and the types are those of crates/haythaw.
+        unsafe extern "C" {
+            $(fn $symbol(
+                rgba: *const u8,
+                rgba_count: usize,
+                width: u16,
+                height: u16,
+                y: *mut u8,
+                y_count: usize,
+                u: *mut u8,
+                u_count: usize,
+                v: *mut u8,
+                v_count: usize,
+            ) -> u32;)*
+        }
+
+        $($(#[$about])*
+        #[inline]
+        pub fn $name(rgba: &[u8], Size { width, height }: Size, [y, u, v]: [&mut [u8]; 3]) -> u32 {
+            // SAFETY: each pointer and count are of one slice, and the three that are written are borrowed for that alone.
+            unsafe {
+                $symbol(
+                    rgba.as_ptr(),
+                    rgba.len(),
+                    width,
+                    height,
+                    y.as_mut_ptr(),
+                    y.len(),
+                    u.as_mut_ptr(),
+                    u.len(),
+                    v.as_mut_ptr(),
+                    v.len(),
+                )
+            }
+        })*
+    };
+}
+
+making! {
+    /// The picture of RGBA pixels, its edge filled. 0, 2 or 1.
+    from_rgba is haythaw_from_rgba;
+    /// The picture of RGBA pixels as the Rust original has it, with padding as in a fresh picture. 0, 2 or 1.
+    from_rgba_rust is haythaw_from_rgba_rust;
 }
