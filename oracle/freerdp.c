@@ -1,5 +1,5 @@
 /* FreeRDP's primitives timed beside ours, over whole frames, for the calls that it has (freerdp2 of Debian). Times alone: its answers differ
-   from the Rust original's, and so from ours, where docs/DIFFERENCES.md says. */
+   from ours, as from the Rust original's, where docs/DIFFERENCES.md says, and its from RGBA fills no edge. */
 #include <freerdp/codec/color.h>
 #include <freerdp/primitives.h>
 

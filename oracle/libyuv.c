@@ -1,5 +1,5 @@
 /* libyuv's conversions timed beside ours, over whole frames (libyuv-dev of Debian). Times alone: its colours are BT.601 of limited range, its
-   pixels are blue, green, red, alpha, and it has neither the filter nor the average. */
+   pixels are blue, green, red, alpha, and it has neither the filter nor the average, and fills no edge. */
 #include <libyuv.h>
 
 #include "frames.h"

@@ -11,7 +11,7 @@ mod average;
 mod bytes;
 mod filter;
 mod forward;
-mod from_rgba;
+pub(crate) mod from_rgba;
 mod lengths;
 mod lists;
 mod look;
@@ -51,6 +51,7 @@ pub const SUITES: &[Suite] = &[
     allocation_size::SUITE,
     new::SUITE,
     from_rgba::SUITE,
+    from_rgba::RUST_SUITE,
     to_rgba::SUITE,
     view_to_rgba::SUITE,
     apply::MAIN_SUITE,
@@ -76,6 +77,7 @@ pub const BENCHES: &[Bench] = &[
     new::BENCH,
     from_rgba::BENCH,
     from_rgba::SMOOTH_BENCH,
+    from_rgba::RUST_BENCH,
     to_rgba::BENCH,
     to_rgba::SMOOTH_BENCH,
     to_rgba::SMALL_BENCH,

@@ -109,7 +109,12 @@ impl Planes {
 
     /// Takes the planes of the original's picture. What is longer than a plane stays.
     pub fn take(&mut self, picture: &Yuv444Frame) {
-        for (lent, plane) in self.lent().into_iter().zip(probe::planes(picture)) {
+        self.take_planes(probe::planes(picture));
+    }
+
+    /// Takes planes. What is longer than a plane stays.
+    pub fn take_planes(&mut self, planes: [&[u8]; 3]) {
+        for (lent, plane) in self.lent().into_iter().zip(planes) {
             lent[..plane.len()].copy_from_slice(plane);
         }
     }

@@ -116,7 +116,7 @@ impl Case {
             Avc444Layout::V2 => (ours::split_v2, ours::apply_auxiliary_v2),
         };
         let (size, list) = (self.size, lists::whole(self.size));
-        let mut numbers = vec![ours::from_rgba(pixels, size, planes.lent())];
+        let mut numbers = vec![ours::from_rgba_rust(pixels, size, planes.lent())];
 
         let mut outputs = Outputs::exact(&Sizes::exact(size.width, size.height)).0.map(|length| vec![0; length]);
         let [y, u, v, aux_y, aux_u, aux_v] = outputs.each_mut().map(Vec::as_mut_slice);
