@@ -1,4 +1,4 @@
-/* replay_picture: a picture from RGBA, both conversions to RGBA, and main views applied. */
+/* replay_picture: a picture from RGBA as the Rust has it and with the edge filled, both conversions to RGBA, and main views applied. */
 #ifndef STORED_PICTURE_H
 #define STORED_PICTURE_H
 
@@ -24,12 +24,12 @@ static void paint_view(Args *a, size_t seed)
 }
 
 /* The picture that a case begins with: of painted pixels, or a fresh one. */
-static uint32_t filled(Args *a, size_t seed)
+static uint32_t painted(enum call call, Args *a, size_t seed)
 {
     picture(a, a->width, a->height, plane_of(a->width, a->height));
     lend_as(a, RGBA, (size_t)4 * a->width * a->height, NULL);
     paint(a, RGBA, seed);
-    return asked(FROM_RGBA, a).number;
+    return asked(call, a).number;
 }
 
 static uint32_t fresh(Args *a)
@@ -66,16 +66,18 @@ static void pixels_words(const Args *a, enum call call)
     printf("\n");
 }
 
-/* The calls: 0 is from RGBA, 1 picture to RGBA, 2 view to RGBA, 3 the main view onto a fresh picture, 4 onto one from RGBA. */
+/* The calls: 0 is from RGBA as the Rust has it, 1 picture to RGBA, 2 view to RGBA, 3 the main view onto a fresh picture, 4 onto one from
+ * RGBA, 5 from RGBA with the edge filled. What 1 and 4 begin with was recorded from the Rust, so it is made as the Rust makes it. */
 static void picture_line(size_t index, const uint8_t *s)
 {
-    static const char *const names[5] = {"from_rgba", "to_rgba", "view_to_rgba", "apply_main_view", "apply_main_view"};
+    static const char *const names[6] = {"from_rgba_rust", "to_rgba", "view_to_rgba", "apply_main_view", "apply_main_view", "from_rgba"};
     Stored c = stored_at(s);
     Args *a = &c.a;
-    whole(c.which < 5, "a case of no call");
+    whole(c.which < 6, "a case of no call");
     printf("%zu: %s %u x %u", index, names[c.which], c.which == 2 ? a->view_width : a->width, c.which == 2 ? a->view_height : a->height);
-    const uint32_t begun = c.which == 2 ? 0 : c.which == 3 ? fresh(a) : filled(a, c.source);
-    if (c.which == 0 || begun != 0) {
+    const enum call made = c.which == 5 ? FROM_RGBA : FROM_RGBA_RUST;
+    const uint32_t begun = c.which == 2 ? 0 : c.which == 3 ? fresh(a) : painted(made, a, c.source);
+    if (c.which == 0 || c.which == 5 || begun != 0) {
         planes_words(a, begun);
     } else if (c.which <= 2) {
         a->left = c.rects[0], a->top = c.rects[1], a->right = c.rects[2], a->bottom = c.rects[3];

@@ -1,5 +1,6 @@
-/* refusals_picture: a fresh picture (1), a picture from RGBA (2, 1), a picture to RGBA (1, 6) and a view to RGBA (3, 4, 6), each number at
- * the edge where it begins. A line has the answer, and what the lent bytes are afterwards: unchanged, or a checksum of what was written. */
+/* refusals_picture: a fresh picture (1), a picture from RGBA by either call (2, 1), a picture to RGBA (1, 6) and a view to RGBA (3, 4, 6),
+ * each number at the edge where it begins. A line has the answer, and what the lent bytes are afterwards: unchanged, or a checksum of what
+ * was written. */
 #ifndef STORED_REFUSALS_PICTURE_H
 #define STORED_REFUSALS_PICTURE_H
 
@@ -24,7 +25,7 @@ static const PlanesCase planes_cases[] = {
     {"new: 17 x 16", NEW, 17, 16, 0, {257, 257, 257}},
     {"new: 16 x 17", NEW, 16, 17, 0, {257, 257, 257}},
     {"new: largest", NEW, 65535, 65535, 0, {257, 257, 257}},
-    /* 5 x 5 has 100 bytes of pixels, all of them 200: Y is 199, U and V are 128 */
+    /* 5 x 5 has 100 bytes of pixels, all of them 200: Y is 199, U and V are 128. In the padding Y is 199 too, or 0 as the Rust has it. */
     {"from: exact", FROM_RGBA, 5, 5, 100, {256, 256, 256}},
     {"from: one over", FROM_RGBA, 5, 5, 101, {257, 257, 257}},
     {"from: rgba short", FROM_RGBA, 5, 5, 99, {256, 256, 256}},
@@ -39,6 +40,20 @@ static const PlanesCase planes_cases[] = {
     {"from: 0 x 5", FROM_RGBA, 0, 5, 0, {0, 0, 0}},
     {"from: 5 x 0", FROM_RGBA, 5, 0, 0, {0, 0, 0}},
     {"from: largest", FROM_RGBA, 65535, 65535, 101, {257, 257, 257}},
+    {"from rust: exact", FROM_RGBA_RUST, 5, 5, 100, {256, 256, 256}},
+    {"from rust: one over", FROM_RGBA_RUST, 5, 5, 101, {257, 257, 257}},
+    {"from rust: rgba short", FROM_RGBA_RUST, 5, 5, 99, {256, 256, 256}},
+    {"from rust: y short", FROM_RGBA_RUST, 5, 5, 100, {255, 256, 256}},
+    {"from rust: u short", FROM_RGBA_RUST, 5, 5, 100, {256, 255, 256}},
+    {"from rust: v short", FROM_RGBA_RUST, 5, 5, 100, {256, 256, 255}},
+    {"from rust: rgba, y short", FROM_RGBA_RUST, 5, 5, 99, {255, 256, 256}},
+    {"from rust: rgba, u short", FROM_RGBA_RUST, 5, 5, 99, {256, 255, 256}},
+    {"from rust: rgba, v short", FROM_RGBA_RUST, 5, 5, 99, {256, 256, 255}},
+    {"from rust: empty", FROM_RGBA_RUST, 5, 5, 0, {0, 0, 0}},
+    {"from rust: 0 x 0", FROM_RGBA_RUST, 0, 0, 0, {0, 0, 0}},
+    {"from rust: 0 x 5", FROM_RGBA_RUST, 0, 5, 0, {0, 0, 0}},
+    {"from rust: 5 x 0", FROM_RGBA_RUST, 5, 0, 0, {0, 0, 0}},
+    {"from rust: largest", FROM_RGBA_RUST, 65535, 65535, 101, {257, 257, 257}},
 };
 
 static void planes_line(const PlanesCase *c)
@@ -51,7 +66,7 @@ static void planes_line(const PlanesCase *c)
     const Result r = asked(c->call, &a);
     say_answer(c->name, &r);
     say_planes(&a, UNWRITTEN, FIVE_PLANE);
-    if (c->call == FROM_RGBA)
+    if (c->call != NEW)
         say_read(", rgba ", &a, RGBA, RGBA, PIXEL_BYTE);
     printf("\n");
     over(c->call);

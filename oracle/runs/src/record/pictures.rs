@@ -1,4 +1,5 @@
-//! `replay_picture`: pictures from RGBA, both conversions to RGBA, and main views applied.
+//! `replay_picture`: pictures from RGBA as the original makes them and with the edge filled, both conversions to RGBA, and main views
+//! applied.
 //!
 //! A case of the input is 22 numbers of two bytes, little-endian: the call, a picture's width, height and seed, a view's width, height,
 //! luma stride, chroma stride and seed, the count of rectangles, and three rectangles. Bytes come from a seed x: for each byte x becomes
@@ -11,7 +12,9 @@ use original::decode::Yuv420Frame;
 use original::ExclusiveRectangle;
 
 use super::{checksum, two, Sample};
+use crate::ours::Size;
 use crate::random::Random;
+use crate::suites::from_rgba::filled;
 
 /// Bytes of pixels, and of each plane of a view: as many as any case reads, or more.
 const PIXELS: usize = 8192;
@@ -19,11 +22,12 @@ const PLANE: usize = 4096;
 
 #[derive(Clone, Copy)]
 enum Call {
-    FromRgba,
+    FromRgbaRust,
     ToRgba,
     ViewToRgba,
     MainOnFresh,
-    MainOnFilled,
+    MainOnPainted,
+    FromRgba,
 }
 
 #[derive(Clone, Copy, Default)]
@@ -76,7 +80,11 @@ fn pixels(rgba: &[u8]) -> String {
 }
 
 fn planes(picture: &Yuv444Frame) -> String {
-    let [y, u, v] = probe::planes(picture).map(checksum);
+    checksums(probe::planes(picture))
+}
+
+fn checksums(planes: [&[u8]; 3]) -> String {
+    let [y, u, v] = planes.map(checksum);
     format!("y {y:08x} u {u:08x} v {v:08x}")
 }
 
@@ -111,18 +119,29 @@ impl Case {
         head.into_iter().chain(rest).chain(rects).flat_map(two).collect()
     }
 
-    fn filled(&self) -> Yuv444Frame {
+    /// The picture of pixels that the seed decides.
+    fn painted(&self) -> Yuv444Frame {
         Yuv444Frame::from_rgba(&bytes(usize::from(self.seed), PIXELS), self.width, self.height)
             .expect("the pixels of a sample are enough")
+    }
+
+    /// The planes of the same pixels with the edge filled, of the original's making.
+    fn filled(&self) -> [Vec<u8>; 3] {
+        let size = Size { width: self.width, height: self.height };
+        filled::planes(&bytes(usize::from(self.seed), PIXELS), size).expect("the pixels of a sample are enough")
     }
 
     /// What the original answers.
     fn answer(&self) -> String {
         let Self { width, height, view, .. } = *self;
         match self.call {
-            Call::FromRgba => format!("from_rgba {width} x {height}: {}", planes(&self.filled())),
+            Call::FromRgbaRust => format!("from_rgba_rust {width} x {height}: {}", planes(&self.painted())),
+            Call::FromRgba => {
+                let filled = self.filled();
+                format!("from_rgba {width} x {height}: {}", checksums(filled.each_ref().map(Vec::as_slice)))
+            }
             Call::ToRgba => {
-                let (picture, rect) = (self.filled(), exclusive(self.rects[0]));
+                let (picture, rect) = (self.painted(), exclusive(self.rects[0]));
                 let [u, v] = probe::filtered(&picture, &rect);
                 format!("to_rgba {width} x {height}: {}, filtered {u} {v}", pixels(&picture.to_rgba(&rect)))
             }
@@ -131,7 +150,7 @@ impl Case {
                 format!("view_to_rgba {} x {}: {}", view.width, view.height, pixels(rgba.data()))
             }
             Call::MainOnFresh => self.applied(Yuv444Frame::new(width, height)),
-            Call::MainOnFilled => self.applied(self.filled()),
+            Call::MainOnPainted => self.applied(self.painted()),
         }
     }
 
@@ -148,10 +167,11 @@ const SIZES: [(u16, u16); 12] =
 
 fn cases(random: &mut Random) -> Vec<Case> {
     let mut cases = Vec::new();
-    filled(&mut cases, random);
+    painted(&mut cases, Call::FromRgbaRust, random);
     converted(&mut cases, random);
     views(&mut cases, random);
     applied(&mut cases, random);
+    painted(&mut cases, Call::FromRgba, random);
     cases
 }
 
@@ -174,11 +194,11 @@ pub fn any_rect(width: u16, height: u16, random: &mut Random) -> Rect {
 }
 
 /// Each size of 0 to 8, and sizes up to 33.
-fn filled(cases: &mut Vec<Case>, random: &mut Random) {
+fn painted(cases: &mut Vec<Case>, call: Call, random: &mut Random) {
     let small = (0..=8).flat_map(|width| (0..=8).map(move |height| (width, height)));
     let large = [(9, 16), (16, 33), (33, 1), (1, 33), (31, 32), (32, 32), (33, 0), (0, 33), (24, 20)];
     for size in small.chain(SIZES).chain(large) {
-        cases.push(Case::without_view(Call::FromRgba, size, vec![], random));
+        cases.push(Case::without_view(call, size, vec![], random));
     }
 }
 
@@ -222,7 +242,7 @@ fn views(cases: &mut Vec<Case>, random: &mut Random) {
 
 /// Views as large as the picture, larger and smaller; lists of none to three rectangles, the whole picture and any.
 fn applied(cases: &mut Vec<Case>, random: &mut Random) {
-    for call in [Call::MainOnFresh, Call::MainOnFilled] {
+    for call in [Call::MainOnFresh, Call::MainOnPainted] {
         for (width, height) in [(0, 0), (0, 5), (5, 0)].into_iter().chain(SIZES) {
             for turn in 0..7 {
                 let (view_width, view_height) = match turn {
