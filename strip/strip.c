@@ -57,8 +57,7 @@ static void draw(uint8_t *rgba, int missing)
 static Picture from_rgba(const uint8_t *rgba)
 {
     Picture p;
-    /* As the Rust has it: docs/strip.png was drawn with padding as in a fresh picture; until it is drawn anew with the edge filled. */
-    must(haythaw_from_rgba_rust(rgba, RGBA, WIDTH, HEIGHT, PLANES(&p)), "from_rgba");
+    must(haythaw_from_rgba(rgba, RGBA, WIDTH, HEIGHT, PLANES(&p)), "from_rgba");
     return p;
 }
 
