@@ -153,8 +153,21 @@ def places_at(start, parts):
 
 # --- The rules: colour/specs/Colour.antt, with a the even-even sample of a 2x2 block and s the sum of the other three.
 
+def clamp(n):
+    return max(0, min(255, n))
+
+
+def forward_of(r, g, b):
+    """Y, U and V; the clamp never acts."""
+    return (54 * r + 183 * g + 18 * b) // 256, (-29 * r - 99 * g + 128 * b) // 256 + 128, (128 * r - 116 * g - 12 * b) // 256 + 128
+
+
+def average_of(samples):
+    return (sum(samples) + 2) // 4
+
+
 def reversed_of(a, s):
-    return max(0, min(255, 4 * a - s))
+    return clamp(4 * a - s)
 
 
 def filtered_of(a, s):
@@ -179,7 +192,21 @@ def blue_product(u):
     return 475 * (u - 128)
 
 
-# --- The pen: each call answers a piece of SVG.
+def reverse_of(y, u, v):
+    """Red, green and blue."""
+    return tuple(clamp((256 * y + product) // 256) for product in (red_product(v), green_u_product(u) + green_v_product(v), blue_product(u)))
+
+
+# --- The pen: a colour as SVG writes it; and each further call answers a piece of SVG.
+
+def hexadecimal(colour):
+    return '#' + ''.join(f'{byte:02x}' for byte in colour)
+
+
+def ink_on(colour):
+    """Which of black and white can be read on it."""
+    return 'black' if 54 * colour[0] + 183 * colour[1] + 18 * colour[2] > 100 * 256 else 'white'
+
 
 def said_of(more):
     """Further attributes, as SVG writes them."""

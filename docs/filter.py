@@ -8,16 +8,10 @@
 It needs a C compiler (cc) and makes the library first where that is not made (oracle/library.sh).
 """
 import colorsys
-import os
-import subprocess
-import sys
-import tempfile
 
-from drawings import BLUE, INK, box, lines, picture, reversed_of, text
+from drawings import BLUE, INK, average_of, box, forward_of, hexadecimal, ink_on, lines, picture, reversed_of, text
+from through import asked, keep, stop, through_library
 
-ROOT = os.path.dirname(os.path.dirname(os.path.abspath(__file__)))
-PAGE = os.path.join(ROOT, 'docs', 'FILTER.md')
-CHART = os.path.join(ROOT, 'docs', 'filter_colours.svg')
 PAPER = (255, 255, 255)
 
 # What is inked of a block: the even-even pixel, then right, below, diagonal.
@@ -33,13 +27,9 @@ HUES, LIGHTS = range(0, 360, 10), range(90, 0, -10)
 
 # --- The rules: colour/specs/Colour.antt.
 
-def chroma_of(r, g, b):
-    return (-29 * r - 99 * g + 128 * b) // 256 + 128, (128 * r - 116 * g - 12 * b) // 256 + 128
-
-
 def applied(samples):
     """Whether the filter replaces the average of a block of four samples."""
-    a, s = (sum(samples) + 2) // 4, sum(samples[1:])
+    a, s = average_of(samples), sum(samples[1:])
     return abs(reversed_of(a, s) - a) >= 30
 
 
@@ -49,32 +39,17 @@ def block(ink, shape):
     return [ink if inked == '#' else PAPER for inked in SHAPES[shape]]
 
 
-def run(words, **more):
-    try:
-        return subprocess.run(words, check=True, **more)
-    except FileNotFoundError:
-        sys.exit(f'filter.py: there is no command {words[0]}')
-    except subprocess.CalledProcessError as failed:
-        sys.exit(f'filter.py: {os.path.basename(words[0])} ended with status {failed.returncode}')
-
-
-def through_library(blocks):
+def answers_to(blocks):
     """Of each block of four pixels: whether U and whether V was filtered, and the four pixels that came back."""
-    run([os.path.join(ROOT, 'oracle', 'library.sh')], stdout=subprocess.DEVNULL)
-    with tempfile.TemporaryDirectory() as made:
-        program = os.path.join(made, 'filter')
-        run(['cc', '-std=c99', '-O1', '-Wall', '-Wextra', '-Werror', '-I' + os.path.join(ROOT, 'bind', 'c'),
-             os.path.join(ROOT, 'docs', 'filter.c'), os.path.join(ROOT, 'oracle', 'build', 'libhaythaw.a'), '-o', program])
-        given = ''.join(' '.join(str(byte) for pixel in pixels for byte in pixel) + '\n' for pixels in blocks)
-        said = run([program], input=given, stdout=subprocess.PIPE, text=True).stdout.splitlines()
+    said = through_library('filter', [[byte for pixel in pixels for byte in pixel] for pixels in blocks])
     if len(said) != len(blocks):
-        sys.exit(f'filter.py: {len(blocks)} blocks were sent, and {len(said)} came back')
+        stop(f'{len(blocks)} blocks were sent, and {len(said)} came back')
     answers = []
     for pixels, line in zip(blocks, said):
-        u, v, *back = map(int, line.split())
+        u, v, *back = line
         for plane, filtered in enumerate((u, v)):
-            if bool(filtered) != applied([chroma_of(*pixel)[plane] for pixel in pixels]):
-                sys.exit(f'filter.py: the library and the rules differ in {"UV"[plane]} of the block {pixels}')
+            if bool(filtered) != applied([forward_of(*pixel)[1 + plane] for pixel in pixels]):
+                stop(f'the library and the rules differ in {"UV"[plane]} of the block {pixels}')
         answers.append((u, v, [tuple(back[k:k + 3]) for k in range(0, 12, 3)]))
     return answers
 
@@ -95,17 +70,13 @@ def edges(differing):
     return min(replaced[True]) - 1, max(replaced[False]) + 1
 
 
-def hexadecimal(colour):
-    return '#' + ''.join(f'{byte:02x}' for byte in colour)
-
-
 def page(answers):
     rows = []
     for name, ink in INKS.items():
         found = [bites(*answers[tuple(block(ink, shape))][:2]) for shape in SHAPES]
-        rows.append('| ' + ' | '.join([name, f'`{hexadecimal(ink)}`', *map(str, chroma_of(*ink)), *found]) + ' |')
+        rows.append('| ' + ' | '.join([name, f'`{hexadecimal(ink)}`', *map(str, forward_of(*ink)[1:]), *found]) + ' |')
     if [bites(*answers[tuple(block(INKS['red'], shape))][:2]) for shape in SHAPES] != ['V'] * 3:
-        sys.exit('filter.py: what the page says of red does not hold')
+        stop('what the page says of red does not hold')
     apart = [f'| {differing} of 3 | {below} | {above} |' for differing in (3, 2, 1) for below, above in [edges(differing)]]
     return '\n'.join([
         '# Which colours does the filter bite?',
@@ -171,10 +142,9 @@ def chart_of(y, shape, answers):
         for column, hue in enumerate(HUES):
             ink = colour_at(hue, light)
             u, v, _ = answers[tuple(block(ink, shape))]
-            bright = 54 * ink[0] + 183 * ink[1] + 18 * ink[2] > 100 * 256
             drawn.append(box(LEFT + column * SIDE, y + row * SIDE, SIDE - 1, SIDE - 1, hexadecimal(ink)))
             if u or v:
-                drawn.append(text(LEFT + column * SIDE + 10.5, y + row * SIDE + 14.5, MARKS[u, v], 10.5, 'middle', fill='black' if bright else 'white'))
+                drawn.append(text(LEFT + column * SIDE + 10.5, y + row * SIDE + 14.5, MARKS[u, v], 10.5, 'middle', fill=ink_on(ink)))
         out.append(''.join(drawn))
     below = y + len(LIGHTS) * SIDE
     return out + [text(LEFT + hue / 10 * SIDE + SIDE / 2, below + 14, hue, 11, 'middle') for hue in range(0, 360, 30)]
@@ -195,19 +165,12 @@ def chart(answers):
 
 
 def main():
-    if sys.argv[1:] not in ([], ['--check']):
-        sys.exit(__doc__)
+    checking = asked(__doc__)
     inks = [*INKS.values(), *(colour_at(hue, light) for light in LIGHTS for hue in HUES)]
     blocks = [block(ink, shape) for ink in inks for shape in SHAPES]
-    answers = {tuple(pixels): answer for pixels, answer in zip(blocks, through_library(blocks))}
-    made = {PAGE: page(answers), CHART: chart(answers)}
-    for path, content in made.items():
-        if not sys.argv[1:]:
-            with open(path, 'w', encoding='utf-8') as file:
-                file.write(content)
-        elif not os.path.exists(path) or open(path, encoding='utf-8').read() != content:
-            sys.exit(f'filter.py: docs/{os.path.basename(path)} is not what the library says: run docs/filter.py')
-    if sys.argv[1:]:
+    answers = {tuple(pixels): answer for pixels, answer in zip(blocks, answers_to(blocks))}
+    keep({'FILTER.md': page(answers), 'filter_colours.svg': chart(answers)}, checking)
+    if checking:
         print(f'filter: docs/FILTER.md and docs/filter_colours.svg say of {len(answers)} blocks what the library answers')
 
 
