@@ -3,19 +3,19 @@
 use Prim.Native.Nat.{ℕ, _+_, _*_, _-_, _<_, _≤_, min}
 use native.Mathlib.Omega.{arith}
 use mathlib.Core.Path.{_≡_, refl, sym, ap, _∙_}
-use mathlib.Core.Bool.{true, cond, _&&_}
+use mathlib.Core.Bool.{Bool, true, false, _&&_}
 use mathlib.Core.Logic.{_⊎_, ⊎-elim}
 use mathlib.Core.List.{List}
-use lib.Dec.{ltb, leb}
+use lib.Dec.{ltb}
 use lib.ListN.{length, getD}
-use borrow.Author.Tests.{lt-ltb, le-ltb, le-leb, lt-leb, ltb-true, leb-true}
+use borrow.Author.Tests.{lt-ltb, le-leb, lt-leb, ltb-true, leb-true}
 use Rattle.lent.specs.Paint.{paint, painted, whole, within, upTo}
 use Rattle.lent.specs.Samples.{sample}
-use Rattle.lent.proofs.Bools.{split, never-true, both-left, both-right, cond-true, cond-false}
-use Rattle.lent.proofs.Cells.{cell-in, row-in, row-after}
-use Rattle.lent.proofs.Paint.{length-paint, getD-paint}
+use Rattle.lent.proofs.Bools.{split, never-true, both-left, both-right, cond-false}
+use Rattle.lent.proofs.Cells.{row-in}
 use Rattle.lent.proofs.Painted.{length-painted, painted-at, painted-past, painted-is, painted-none}
-use Rattle.lent.proofs.Taken.{within-facts, within-holds}
+use Rattle.lent.proofs.ByPart.{part-within}
+use Rattle.lent.proofs.PartRows.{part-more}
 use Rattle.from_rgba.specs.declared.edges.Edge.{Edge}
 use Rattle.from_rgba.specs.declared.edges.Edge.the-variants.{Fresh, Filled}
 use Rattle.from_rgba.proofs.Passes.{Local}
@@ -35,16 +35,17 @@ pub column-facts : (width height r c : ℕ) → pastColumn width height r c ≡ 
 unfolding pastColumn
 column-facts width height r c e = (ltb-true r height (both-left _ _ e), leb-true width c (both-right (ltb r height) _ e))
 
--- a row's last sample stays, however many rows have their padding
-pub last-kept : (w h width height row r : ℕ) (s : ℕ → ℕ → ℕ) (xs : List ℕ) {was : List ℕ} → h * w ≤ length xs → r < h → 0 < width → width ≤ w
-    → was ≡ painted w h (upTo (pastColumn width height) row) s xs
-    → getD was (r * w + (width - 1)) 0 ≡ sample xs w r (width - 1)
+-- a row's last sample is none of them
+pub last-untaken : (width height r : ℕ) → 0 < width → pastColumn width height r (width - 1) ≡ false
+last-untaken width height r some = never-true (pastColumn width height r (width - 1)) (λ e. omega (arith, column-facts width height r (width - 1) e .1))
+
+-- ---- a place that is not taken stays, however many rows are done
+
+pub untaken : (w h row r c : ℕ) (T : ℕ → ℕ → Bool) (s : ℕ → ℕ → ℕ) (xs : List ℕ) {was : List ℕ} → h * w ≤ length xs → r < h → c < w → T r c ≡ false
+    → was ≡ painted w h (upTo T row) s xs → getD was (r * w + c) 0 ≡ sample xs w r c
 unfolding upTo sample
-last-kept w h width height row r s xs fits hr some in-w before =
-    ap (λ (l : List ℕ). getD l (r * w + (width - 1)) 0) before
-    ∙ painted-at w h (upTo (pastColumn width height) row) s xs r (width - 1) hr (omega arith) fits
-    ∙ cond-false _ _ _
-    (never-true (pastColumn width height r (width - 1) && ltb r row) (λ e. omega (arith, column-facts width height r (width - 1) (both-left (pastColumn width height r (width - 1)) _ e) .1)))
+untaken w h row r c T s xs fits hr hc out before =
+    ap (λ (l : List ℕ). getD l (r * w + c) 0) before ∙ painted-at w h (upTo T row) s xs r c hr hc fits ∙ cond-false (T r c && ltb r row) _ _ (rw out refl)
 
 -- ---- a row below the picture
 
@@ -52,81 +53,23 @@ pub row-facts : (height r c : ℕ) → pastRow height r c ≡ true → height �
 unfolding pastRow
 row-facts height r c e = leb-true height r e
 
-module _ (w h height : ℕ) (xs : List ℕ) (fits : h * w ≤ length xs) (some-h : 0 < height) where
-  -- what is written there
-  abbrev lastRow : ℕ → ℕ → ℕ
-  lastRow r c = sample xs w (height - 1) c
+row-taken : (height w row c : ℕ) → height ≤ row → c < w → pastRow height row c ≡ within 0 w c
+unfolding pastRow within
+row-taken height w row c below hc = rw (le-leb height row below, le-leb 0 c (omega arith), lt-ltb c w hc) refl
 
-  taken : (row r c : ℕ) → height ≤ r → r < row → upTo (pastRow height) row r c ≡ true
-  unfolding upTo pastRow
-  taken row r c ge lt = rw (le-leb height r ge, lt-ltb r row lt) refl
-
-  -- rows that are not yet written, the picture's among them
-  kept : (row r c : ℕ) {was : List ℕ} → was ≡ painted w h (upTo (pastRow height) row) lastRow xs → r < h → c < w → (height ≤ r → row ≤ r)
-      → getD was (r * w + c) 0 ≡ getD xs (r * w + c) 0
-  unfolding upTo pastRow
-  kept row r c before hr hc out =
-      ap (λ (l : List ℕ). getD l (r * w + c) 0) before
-      ∙ painted-at w h (upTo (pastRow height) row) lastRow xs r c hr hc fits
-      ∙ cond-false (leb height r && ltb r row) _ _
-      (⊎-elim (λ lt. rw (lt-leb height r lt) refl) (λ ge. rw (le-leb height r ge, le-ltb r row (out ge)) refl) (split r height))
-
-  -- row `row` became the last row of the picture, where those before it are done
-  module _ {was is : List ℕ} (row last to : ℕ) (below : height ≤ row) (hr : row < h) (last-is : last ≡ (height - 1) * w) (to-is : to ≡ row * w)
-      (before : was ≡ painted w h (upTo (pastRow height) row) lastRow xs)
-      (now : is ≡ paint (within to (to + w)) (λ k. getD was (last + (k - to)) 0) was) where
-    long : length was ≡ length xs
-    long = ap length before ∙ length-painted w h _ _ xs
-
-    -- what a byte is after the copy
-    byte : (k : ℕ) → k < length xs → getD is k 0 ≡ cond (within to (to + w) k) (getD was (last + (k - to)) 0) (getD was k 0)
-    byte k lt = ap (λ (l : List ℕ). getD l k 0) now ∙ getD-paint _ _ was k (omega (arith, long))
-
-    out : (k : ℕ) → k < length xs → (to ≤ k → k < to + w → ⊥) → getD is k 0 ≡ getD was k 0
-    out k lt apart = byte k lt ∙ cond-false _ _ _ (never-true _ (λ e. let f = within-facts to (to + w) k e in apart (f .0) (f .1)))
-
-    in-xs : (r c : ℕ) → r < h → c < w → r * w + c < length xs
-    in-xs r c lt hc = omega (arith, cell-in w h r c lt hc)
-
-    earlier : (r c : ℕ) → r < h → c < w → r < row → getD is (r * w + c) 0 ≡ cond (upTo (pastRow height) (row + 1) r c) (lastRow r c) (getD xs (r * w + c) 0)
-    unfolding upTo pastRow
-    earlier r c lt hc lt′ =
-        out (r * w + c) (in-xs r c lt hc) (λ ge _. omega (arith, to-is, row-after w r row lt′))
-        ∙ ap (λ (l : List ℕ). getD l (r * w + c) 0) before
-        ∙ painted-at w h (upTo (pastRow height) row) lastRow xs r c lt hc fits
-        ∙ rw (lt-ltb r row lt′, lt-ltb r (row + 1) (omega arith)) refl
-
-    here : (c : ℕ) → c < w → getD is (row * w + c) 0 ≡ lastRow row c
-    unfolding sample
-    here c hc =
-        let from : last + (row * w + c - to) ≡ (height - 1) * w + c = omega (arith, to-is, last-is) in
-        byte (row * w + c) (in-xs row c hr hc)
-        ∙ cond-true _ _ _ (within-holds to (to + w) (row * w + c) (omega (arith, to-is)) (omega (arith, to-is)))
-        ∙ ap (λ (k : ℕ). getD was k 0) from
-        ∙ kept row (height - 1) c before (omega arith) hc (λ ge. omega arith)
-
-    later : (r c : ℕ) → r < h → c < w → row < r → getD is (r * w + c) 0 ≡ getD xs (r * w + c) 0
-    later r c lt hc gt =
-        out (r * w + c) (in-xs r c lt hc) (λ _ lt′. omega (arith, to-is, row-after w row r gt)) ∙ kept row r c before lt hc (λ ge. omega arith)
-
-    at : (r c : ℕ) → r < h → c < w → getD is (r * w + c) 0 ≡ cond (upTo (pastRow height) (row + 1) r c) (lastRow r c) (getD xs (r * w + c) 0)
-    unfolding upTo pastRow
-    at r c lt hc =
-        ⊎-elim
-        (earlier r c lt hc)
-        (λ ge. ⊎-elim
-        (λ eq. let r-is : row ≡ r = omega arith in
-        ap (λ (q : ℕ). getD is (q * w + c) 0) (sym r-is) ∙ here c hc ∙ sym (cond-true _ _ _ (taken (row + 1) r c (omega arith) eq)))
-        (λ gt. later r c lt hc (omega arith) ∙ sym (cond-false (leb height r && ltb r (row + 1)) _ _ (rw (le-leb height r (omega arith), le-ltb r (row + 1) gt) refl)))
-        (split r (row + 1)))
-        (split r row)
-
-    pub row-more : is ≡ painted w h (upTo (pastRow height) (row + 1)) (λ r c. sample xs w (height - 1) c) xs
-    row-more =
-        painted-is w h (upTo (pastRow height) (row + 1)) lastRow xs is (ap length now ∙ length-paint _ _ was ∙ long) at
-        (λ k ge lt. out k lt (λ _ lt′. omega (arith, to-is, row-in w h row hr))
-        ∙ ap (λ (l : List ℕ). getD l k 0) before
-        ∙ painted-past w h (upTo (pastRow height) row) lastRow xs k ge lt)
+-- row `row` became the last row of the picture, where those before it are done
+pub row-more : (w h height : ℕ) (xs : List ℕ) → h * w ≤ length xs → 0 < height → {was is : List ℕ} (row last to : ℕ) → height ≤ row → row < h → last ≡ (height - 1) * w → to ≡ row * w
+    → was ≡ painted w h (upTo (pastRow height) row) (λ r c. sample xs w (height - 1) c) xs
+    → is ≡ paint (within to (to + w)) (λ k. getD was (last + (k - to)) 0) was
+    → is ≡ painted w h (upTo (pastRow height) (row + 1)) (λ r c. sample xs w (height - 1) c) xs
+row-more w h height xs fits some {was} row last to below hr last-is to-is before now =
+    let long : length was ≡ length xs = ap length before ∙ length-painted w h _ _ xs in
+    part-more w h (pastRow height) (λ r c. sample xs w (height - 1) c) xs fits row 0 w to (to + w) (λ j. getD was (last + j) 0) hr (omega arith) (omega arith) (omega (arith, to-is)) (omega (arith, to-is))
+    (λ c hc. row-taken height w row c below hc)
+    (λ j hj. ap (λ (k : ℕ). getD was k 0) (omega (arith, last-is))
+    ∙ untaken w h row (height - 1) (0 + j) (pastRow height) _ xs fits (omega arith) hj (never-true (pastRow height (height - 1) (0 + j)) (λ e. omega (arith, row-facts height (height - 1) (0 + j) e))) before)
+    before refl
+    (now ∙ sym (part-within was to (to + w) (λ j. getD was (last + j) 0) (omega arith) (omega (arith, long, to-is, row-in w h row hr)) refl))
 
 -- ---- the last column into the padding right of it, then the last row into the rows below, leaves the nearest sample everywhere
 

@@ -37,7 +37,7 @@ fn rgba_short(size: Size, n: usize) -> bool
     n < width * height * 4
 }
 
-// The number of `from_rgba`: 2, 1 or 0.
+// The number of both calls: 2, 1 or 0.
 fn from_number(size: Size, n: usize, ny: usize, nu: usize, nv: usize) -> u32
     ensures { λ r. ⌜ r ≡ fromNumberOf size n ny nu nv ⌝ }
 {

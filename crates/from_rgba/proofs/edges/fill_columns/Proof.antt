@@ -14,7 +14,7 @@ use Rattle.lent.proofs.Painted.{length-painted}
 use Rattle.lent.proofs.Rows.{rows-none, rows-all}
 use Rattle.lent.proofs.PartRows.{part-more}
 use Rattle.from_rgba.specs.Edges.{pastColumn}
-use Rattle.from_rgba.proofs.EdgeLaws.{column-row, column-facts, last-kept}
+use Rattle.from_rgba.proofs.EdgeLaws.{column-row, column-facts, last-untaken, untaken}
 use Rattle.from_rgba.proofs.edges.fill_columns.Statement.{statement}
 use Rattle.from_rgba.proofs.edges.fill_columns.Tie as tie
 
@@ -88,7 +88,7 @@ loop-again c =
     let f = fits st in
     let hr : l .loop .row < roundUp 16 (a .height) = omega (arith, t .loop-test .taken) in
     let place : l .loop .row * w + a .width - 1 ≡ l .loop .row * w + (a .width - 1) = omega (arith, f .1) in
-    let last = ap (λ (k : ℕ). getD (l .loop .plane) k 0) place ∙ last-kept w _ (a .width) (a .height) (l .loop .row) (l .loop .row) _ (a .plane .now) (f .0) hr (f .1) (f .2) (l .loop .inv .1) in
+    let last = ap (λ (k : ℕ). getD (l .loop .plane) k 0) place ∙ untaken w _ (l .loop .row) (l .loop .row) (a .width - 1) (pastColumn (a .width) (a .height)) _ (a .plane .now) (f .0) hr (omega (arith, f)) (last-untaken (a .width) (a .height) (l .loop .row) (f .1)) (l .loop .inv .1) in
     let done =
     part-more w (roundUp 16 (a .height)) (pastColumn (a .width) (a .height)) (λ r k. sample (a .plane .now) w r (a .width - 1)) (a .plane .now) (f .0) (l .loop .row) (a .width) w _ _ _
     hr (f .2) (omega arith) refl refl
