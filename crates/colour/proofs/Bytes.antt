@@ -1,15 +1,12 @@
 -- Every answer is a byte. Assumes nothing.
-use Prim.Native.Nat.{ℕ, _+_, _*_, _-_, _<_, min}
-use mathlib.Core.Path.{_≡_, refl}
-use mathlib.Core.List.{List}
-use native.Mathlib.Decide.{decLt}
+use Prim.Native.Nat.{ℕ, _<_}
+use mathlib.Core.Logic.{⊎-elim}
 use native.Mathlib.Omega.{arith}
 use lib.IntN.{ℤ, pos, negsuc}
-use lib.ListN.{getD}
 use Rattle.colour.specs.Whole.{clamp}
-use Rattle.colour.specs.Colour.{lumaWhole, chromaUWhole, chromaVWhole, lumaOf, chromaUOf, chromaVOf, redOf, greenOf, blueOf, averageOf, filteredOf, filterOf}
+use Rattle.colour.specs.Colour.{lumaWhole, chromaUWhole, chromaVWhole, lumaOf, chromaUOf, chromaVOf, redOf, greenOf, blueOf, filteredOf}
 use Rattle.colour.proofs.Formulas.{red-is, green-is, blue-is}
-use Rattle.colour.proofs.Filtering.{near, far}
+use Rattle.colour.proofs.Filtering.{kept-or-undone}
 
 pub clamp-byte : (z : ℤ) → clamp z < 256
 clamp-byte (pos a) = omega arith
@@ -38,13 +35,5 @@ module _ (y u v : ℕ) where
   pub blue-byte : blueOf y u < 256
   blue-byte = omega (arith, blue-is y u)
 
-module _ (a s : ℕ) (h : a < 256) where
-  abbrev t : ℕ
-  t = min (4 * a - s) 255
-
-  by-change : Dec ((t - a) + (a - t) < 30) → filteredOf a s < 256
-  by-change (yes k) = let f : filteredOf a s ≡ a = near a s t refl k in omega arith
-  by-change (no k) = let f : filteredOf a s ≡ t = far a s t refl (omega arith) in omega arith
-
-  pub filtered-byte : filteredOf a s < 256
-  filtered-byte = by-change (decLt ((t - a) + (a - t)) 30)
+pub filtered-byte : (a s : ℕ) → a < 256 → filteredOf a s < 256
+filtered-byte a s h = ⊎-elim (λ k. omega (arith, k .0)) (λ u. omega (arith, u)) (kept-or-undone a s)

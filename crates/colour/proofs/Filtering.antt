@@ -1,8 +1,9 @@
 -- The filter's rule, in natural numbers, and when it is applied. Assumes nothing.
 use mathlib.Core.Path.{_≡_, refl, _∙_, sym}
 use mathlib.Core.Bool.{Bool, true, false, cond, not, false≢true}
-use mathlib.Core.Logic.{_↔_}
+use mathlib.Core.Logic.{_↔_, _⊎_, inl, inr}
 use Prim.Native.Nat.{ℕ, _+_, _*_, _-_, _≤_, _<_, min}
+use native.Mathlib.Decide.{decLt}
 use native.Mathlib.Omega.{arith}
 use lib.Dec.{ltb}
 use borrow.Author.Tests.{lt-ltb, le-ltb, ltb-false}
@@ -41,6 +42,18 @@ module _ (a s t : ℕ) (e : t ≡ min (4 * a - s) 255) where
   replaced h =
       let yes : true ≡ not (ltb (distance (reversed a s) a) 30) = rw (← same, le-ltb (distance t a) 30 (omega (arith, distance-is t a))) refl in
       λ i. record { value = sym (far h) i; applied = yes i }
+
+-- the average is kept, being less than 30 away from what it undoes to, or it is undone
+module _ (a s : ℕ) where
+  abbrev t : ℕ
+  t = min (4 * a - s) 255
+
+  by-change : Dec ((t - a) + (a - t) < 30) → ((filteredOf a s ≡ a) × ((t - a) + (a - t) < 30)) ⊎ (filteredOf a s ≡ t)
+  by-change (yes h) = inl (near a s t refl h, h)
+  by-change (no h) = inr (far a s t refl (omega arith))
+
+  pub kept-or-undone : ((filteredOf a s ≡ a) × ((t - a) + (a - t) < 30)) ⊎ (filteredOf a s ≡ t)
+  kept-or-undone = by-change (decLt ((t - a) + (a - t)) 30)
 
 -- applied exactly where the answer is another one than the average: t is the average undone, and d whether it is near a
 by-distance : (a t : ℕ) (d : Bool) → ltb (distance t a) 30 ≡ d → (not d ≡ true) ↔ (cond d a t ≡ a → ⊥)
