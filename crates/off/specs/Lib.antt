@@ -1,0 +1,3 @@
+-- How far a colour can be off, in samples of chroma and in channels.
+pub mod Off
+pub mod Shown
