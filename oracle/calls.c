@@ -8,7 +8,7 @@ typedef struct { uint8_t y, u, v; } Yuv;
 typedef struct { uint8_t bytes[4]; } Pixel;
 typedef struct { uint8_t value; bool applied; } Undone;
 
-/* Only the runs beside the Rust original call these. */
+/* The runs beside the Rust original call these, and bind/c/test/off.h. */
 Yuv haythaw_forward(uint8_t r, uint8_t g, uint8_t b);
 Pixel haythaw_reverse(uint8_t y, uint8_t u, uint8_t v);
 uint8_t haythaw_average(uint8_t a, uint8_t b, uint8_t c, uint8_t d);

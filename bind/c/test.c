@@ -8,6 +8,7 @@
 #include "test/edges.h"
 #include "test/far.h"
 #include "test/lengths.h"
+#include "test/off.h"
 #include "test/results.h"
 #include "test/sizes.h"
 #include "test/wire.h"
@@ -64,6 +65,7 @@ int main(int words, char **word)
     each_result_type();
     far_addresses();
     refused_far();
+    off_of_every_pair();
     if (words > 1)
         left_out("a stream of 2^30 - 1 bytes written, for want of time");
     else
@@ -78,6 +80,9 @@ int main(int words, char **word)
         edges_by_the_rule();
         both_edges();
         no_side_by_hand();
+        off_by_hand();
+        padding_off_by_hand();
+        off_by_the_rule();
         to_rgba_by_hand();
         filter_by_hand();
         filtered_by_hand();
