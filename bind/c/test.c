@@ -66,6 +66,7 @@ int main(int words, char **word)
     far_addresses();
     refused_far();
     off_of_every_pair();
+    forward_unclamped();
     if (words > 1)
         left_out("a stream of 2^30 - 1 bytes written, for want of time");
     else

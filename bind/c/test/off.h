@@ -1,6 +1,7 @@
 /* How far a colour can be off: the chroma that the reverse filter answers for an even-even sample lies between 30 below and 31 above the
  * sample before averaging, and where the filter is applied between 1 below and 2 above. The four cases that reach these numbers, by hand;
- * every sample with every sum of the other three; and pictures by both calls that make one from RGBA. */
+ * every sample with every sum of the other three; and pictures by both calls that make one from RGBA. And every colour forward, on none of
+ * which the clamp acts. */
 #ifndef OFF_H
 #define OFF_H
 
@@ -223,6 +224,29 @@ static void off_by_the_rule(void)
             check(off.applied > 0, call_names[call], "undone averages at the threshold");
             check(off.far_below > 0 && off.far_above > 0, call_names[call], "averages at the threshold that are kept and far off");
         }
+}
+
+/* Whether a sample is the floor of a number by 256, with no clamp: one of a number below 0, or of 65,536 and more, is not. */
+static bool unclamped(int sample, int number)
+{
+    return 256 * sample <= number && number < 256 * sample + 256;
+}
+
+/* Every colour: the library's samples are what the formulas come to by themselves. The 32768 is the 128 that is added to U and V. */
+static void forward_unclamped(void)
+{
+    bool y = true, u = true, v = true;
+    trying = "forward";
+    for (int k = 0; k < 1 << 24; k++) {
+        const int r = k >> 16, g = k >> 8 & 255, b = k & 255;
+        const Yuv is = haythaw_forward((uint8_t)r, (uint8_t)g, (uint8_t)b);
+        y = y && unclamped(is.y, 54 * r + 183 * g + 18 * b);
+        u = u && unclamped(is.u, 32768 - 29 * r - 99 * g + 128 * b);
+        v = v && unclamped(is.v, 32768 + 128 * r - 116 * g - 12 * b);
+    }
+    check(y, "forward", "Y of every colour, with no clamp");
+    check(u, "forward", "U of every colour, with no clamp");
+    check(v, "forward", "V of every colour, with no clamp");
 }
 
 #endif
