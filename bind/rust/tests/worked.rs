@@ -90,6 +90,42 @@ fn what_the_filter_replaced() {
     assert_eq!(Yuv444Frame::new(5, 3).to_rgba_counted(&rect([0, 0, 5, 3])).1, FilterCounts::default());
 }
 
+/// The four cases that are farthest off, in blocks of U above and of V below: an even-even sample x, right of it s, and 0 twice. (40, 1) and
+/// (0, 122) have the averages 10 and 31, which are kept: 30 below x, and 31 above. (1, 120) and (0, 126) have 30 and 32, and undone they are
+/// 0 and 2: 1 below x, and 2 above. The sides are even, so that no block has padding. What is shown is by the reverse formulas.
+#[test]
+fn how_far_a_colour_is_off() {
+    let (yellow, cyan) = ([255, 255, 0], [0, 255, 245]);
+    // the first pixel, the one right of it and those below; the average; how many samples are undone; what is shown of the first pixel
+    let blocks = [
+        ([[255, 255, 80], [250, 255, 0], yellow], 10, 0, [255, 255, 22]), // of Y 241, U 10, V 138
+        ([yellow, [255, 250, 240], yellow], 31, 0, [250, 249, 56]),       // of Y 236, U 31, V 137
+        ([[250, 255, 0], [255, 255, 240], yellow], 30, 1, [247, 255, 0]), // of Y 235, U 0, V 136
+        ([yellow, [255, 245, 245], yellow], 32, 1, [251, 254, 2]),        // of Y 236, U 2, V 138
+        ([[80, 255, 245], [0, 255, 225], cyan], 10, 0, [30, 255, 249]),   // of Y 216, U 146, V 10
+        ([cyan, [240, 255, 205], cyan], 31, 0, [46, 242, 219]),           // of Y 199, U 139, V 31
+        ([[0, 255, 225], [240, 255, 245], cyan], 30, 1, [0, 255, 223]),   // of Y 198, U 142, V 0
+        ([cyan, [250, 255, 225], cyan], 32, 1, [0, 255, 224]),            // of Y 199, U 142, V 2
+    ];
+    let pixel = |row: usize, col: usize| {
+        let [r, g, b] = blocks[row / 2 * 4 + col / 2].0[(row % 2 * 2 + col % 2).min(2)];
+        [r, g, b, 0]
+    };
+    let pixels: Vec<u8> = (0..4 * 8).flat_map(|at| pixel(at / 8, at % 8)).collect();
+    for make in [Yuv444Frame::from_rgba, Yuv444Frame::from_rgba_filled] {
+        let picture = make(&pixels, 8, 4).expect("32 pixels");
+        let (stride, [_, u, v]) = planes(&picture);
+        for (k, (_, average, undone, [r, g, b])) in blocks.into_iter().enumerate() {
+            let (row, col, of_u) = (k / 4 * 2, k % 4 * 2, k < 4);
+            assert_eq!((if of_u { &u } else { &v })[row * stride + col], average, "block {k}");
+            let (left, top) = (col as u16, row as u16);
+            let (shown, filtered) = picture.to_rgba_counted(&rect([left, top, left + 1, top + 1]));
+            let counts = if of_u { FilterCounts { u: undone, v: 0 } } else { FilterCounts { u: 0, v: undone } };
+            assert_eq!((shown, filtered), (vec![r, g, b, 255], counts), "block {k}");
+        }
+    }
+}
+
 #[test]
 fn rectangles_on_a_picture_of_5_by_5() {
     let none = Vec::<usize>::new;
