@@ -1,18 +1,16 @@
 #!/usr/bin/env python3
 """Writes docs/EDGE.md and docs/edge.svg: how the edge of a map with an odd side is shown, by the Rust's rule and with the edge filled. Every map
-in them went through the library (docs/edge.c, over bind/c/haythaw.h: from RGBA by both calls, split, applied to a fresh picture, and to
-RGBA), and what it answered is held to the rules' own formulas, worked out here.
+in them went through the library, and what it answered is held to the rules' own formulas (docs/maps.py).
 
   docs/edge.py            writes both
   docs/edge.py --check    says whether both are what the library says; status 1 if they are not
 
 It needs a C compiler (cc) and makes the library first where that is not made (oracle/library.sh).
 """
-from collections import namedtuple
-
-from drawings import (GREY, INK, average_of, box, filtered_of, forward_of, hatch, hexadecimal, ink_on, left_out, lines, path, picture, reverse_of,
-                      reversed_of, round_up, text)
-from through import asked, keep, stop, through_library
+from drawings import (GREY, INK, box, filtered_of, forward_of, hatch, hexadecimal, ink_on, left_out, lines, path, picture, reverse_of, reversed_of,
+                      text)
+from maps import FRESH, NAMES, block_at, mean, off, row_of, ways_of
+from through import asked, keep, stop
 
 COLOURS = {'b': (30, 60, 220), 'c': (0, 190, 235), 'g': (40, 170, 60), 'y': (250, 220, 30), 'r': (225, 30, 30),     # from cold to warm
            's': (185, 215, 235), 'l': (205, 225, 180), 'm': (255, 0, 255)}                                          # sea, land, a warning
@@ -33,90 +31,8 @@ def patterned(pattern, width, height):
 MAPS = {'temperature': [map_of('bbbbb bbbbb bbbcc bbccc ccggg cgggy ggyyr gyyrr')], 'warning': [map_of('ssllm ssllm sslmm sllmm mmmmm')],
         **{name: [patterned(pattern, *size) for size in SIZES] for name, pattern in PATTERNS.items()}}
 
-# What a call makes of a map: the planes Y, U and V, row by row; the pixels that are shown with the main view alone, and with both views.
-Made = namedtuple('Made', 'planes alone both')
-# The pixels of a map, row by row, and what the two calls make of it.
-Way = namedtuple('Way', 'pixels rust filled')
-NAMES = {'rust': 'the Rust’s rule', 'filled': 'edge filled', 'alone': 'main view alone', 'both': 'both views'}
-
-
-# --- The rules: from_rgba/specs/Edges.antt, FromRgba.antt, apply_main/specs/Main.antt, to_rgba_rows/specs; a sample is Y, U and V.
-
-FRESH = (0, 128, 128)
-
-
-def block_at(plane, r, c):
-    return [plane[r][c], plane[r][c + 1], plane[r + 1][c], plane[r + 1][c + 1]]
-
-
-def planes_of(pixels, rule):
-    height, width = len(pixels), len(pixels[0])
-    own = [[forward_of(*pixel) for pixel in row] for row in pixels]
-
-    def sample(r, c):
-        if rule == 'filled':
-            return own[min(r, height - 1)][min(c, width - 1)]
-        return own[r][c] if r < height and c < width else FRESH
-
-    rows, columns = range(round_up(16, height)), range(round_up(16, width))
-    planes = [[[sample(r, c)[k] for c in columns] for r in rows] for k in range(3)]
-    for plane in planes[1:]:
-        for r, c in ((r, c) for r in rows[::2] for c in columns[::2]):
-            plane[r][c] = average_of(block_at(plane, r, c))
-    return planes
-
-
-def from_main(plane):
-    """A plane of chroma whose every sample is taken from the main view, at row/2, column/2."""
-    return [[plane[r // 2 * 2][c // 2 * 2] for c in range(len(row))] for r, row in enumerate(plane)]
-
-
-def shown_of(pixels, y, u, v):
-    def chroma(plane, r, c):
-        if left_out(r, c):
-            return plane[r][c]
-        a, *others = block_at(plane, r, c)
-        return filtered_of(a, sum(others))
-
-    return [[reverse_of(y[r][c], chroma(u, r, c), chroma(v, r, c)) for c in range(len(row))] for r, row in enumerate(pixels)]
-
-
-def made_by(pixels, rule):
-    y, u, v = planes_of(pixels, rule)
-    return Made([y, u, v], shown_of(pixels, y, from_main(u), from_main(v)), shown_of(pixels, y, u, v))
-
-
-# --- The library.
-
-def cut(numbers, count):
-    return [numbers[k:k + count] for k in range(0, len(numbers), count)]
-
-
-def made_in(pixels, planes, *shown):
-    """What three lines of the library's answer say, row by row."""
-    height, width = len(pixels), len(pixels[0])
-    return Made(cut(cut(planes, round_up(16, width)), round_up(16, height)), *(cut([tuple(pixel) for pixel in cut(line, 3)], width) for line in shown))
-
-
-def ways_of(maps):
-    said = through_library('edge', [[len(pixels[0]), len(pixels), *(byte for row in pixels for pixel in row for byte in pixel)] for pixels in maps])
-    if len(said) != 6 * len(maps):
-        stop(f'{len(maps)} maps were sent, and {len(said)} lines came back, not six for each')
-    ways = [Way(pixels, made_in(pixels, *six[:3]), made_in(pixels, *six[3:])) for pixels, six in zip(maps, cut(said, 6))]
-    for way in ways:
-        for rule in ('rust', 'filled'):
-            for part, found, worked_out in zip(Made._fields, getattr(way, rule), made_by(way.pixels, rule)):
-                if found != worked_out:
-                    stop(f'the library and the rules differ in a map of {len(way.pixels[0])}x{len(way.pixels)}, {NAMES[rule]}: {NAMES.get(part, part)}')
-    return ways
-
 
 # --- What is told of the maps.
-
-def off(pixel, other):
-    """How far a pixel is off: the largest difference of a channel."""
-    return max(abs(a - b) for a, b in zip(pixel, other))
-
 
 def places(pixels, at_edge):
     """The places of an odd last column and an odd last row, or all others."""
@@ -128,10 +44,6 @@ def places(pixels, at_edge):
 def offs(way, part, rule, at_edge):
     shown = getattr(getattr(way, rule), part)
     return [off(way.pixels[r][c], shown[r][c]) for r, c in places(way.pixels, at_edge)]
-
-
-def mean(numbers):
-    return f'{sum(numbers) / len(numbers):.1f}'
 
 
 def shown_alike(way):
@@ -169,10 +81,6 @@ def nearer(ways, part):
 
 
 # --- The page.
-
-def row_of(*cells):
-    return '| ' + ' | '.join(map(str, cells)) + ' |'
-
 
 def column_rows(way):
     """A row for each pixel of the temperature map's last column."""

@@ -1,5 +1,5 @@
-"""The way through the library, for the pages whose every number it answered: docs/filter.py and docs/edge.py. Each has a C program of its own
-name beside it, over bind/c/haythaw.h, that reads lines of numbers and answers such lines."""
+"""The way through the library, for the pages whose every number it answered: docs/filter.py has blocks of it, docs/edge.py maps, by docs/maps.py.
+Behind it is a C program, docs/filter.c or docs/maps.c, over bind/c/haythaw.h, that reads lines of numbers and answers such lines."""
 import os
 import subprocess
 import sys

@@ -1,4 +1,4 @@
-/* Maps through the library by both edge rules, for docs/edge.py. A line of input has a map: its width and height, then red, green and blue
+/* Maps through the library by both edge rules, for docs/maps.py. A line of input has a map: its width and height, then red, green and blue
  * of each pixel, row by row. For each of haythaw_from_rgba_rust and haythaw_from_rgba, in this order, there are three lines of output: the
  * picture's planes Y, U and V; the pixels that are shown once its main view alone was applied to a fresh picture; and the pixels once its
  * auxiliary view (V1) came too. */

@@ -1,0 +1,98 @@
+"""Maps through the library, for the pages that show what becomes of one: docs/edge.py. Each goes through docs/maps.c, over bind/c/haythaw.h: from
+RGBA by both calls, split, applied to a fresh picture, and to RGBA. What comes back is held to the rules' own formulas, worked out here."""
+from collections import namedtuple
+
+from drawings import average_of, filtered_of, forward_of, left_out, reverse_of, round_up
+from through import stop, through_library
+
+# What a call makes of a map: the planes Y, U and V, row by row; the pixels that are shown with the main view alone, and with both views.
+Made = namedtuple('Made', 'planes alone both')
+# The pixels of a map, row by row, and what the two calls make of it.
+Way = namedtuple('Way', 'pixels rust filled')
+NAMES = {'rust': 'the Rust’s rule', 'filled': 'edge filled', 'alone': 'main view alone', 'both': 'both views'}
+
+
+# --- The rules: from_rgba/specs/Edges.antt, FromRgba.antt, apply_main/specs/Main.antt, to_rgba_rows/specs; a sample is Y, U and V.
+
+FRESH = (0, 128, 128)
+
+
+def block_at(plane, r, c):
+    return [plane[r][c], plane[r][c + 1], plane[r + 1][c], plane[r + 1][c + 1]]
+
+
+def planes_of(pixels, rule):
+    height, width = len(pixels), len(pixels[0])
+    own = [[forward_of(*pixel) for pixel in row] for row in pixels]
+
+    def sample(r, c):
+        if rule == 'filled':
+            return own[min(r, height - 1)][min(c, width - 1)]
+        return own[r][c] if r < height and c < width else FRESH
+
+    rows, columns = range(round_up(16, height)), range(round_up(16, width))
+    planes = [[[sample(r, c)[k] for c in columns] for r in rows] for k in range(3)]
+    for plane in planes[1:]:
+        for r, c in ((r, c) for r in rows[::2] for c in columns[::2]):
+            plane[r][c] = average_of(block_at(plane, r, c))
+    return planes
+
+
+def from_main(plane):
+    """A plane of chroma whose every sample is taken from the main view, at row/2, column/2."""
+    return [[plane[r // 2 * 2][c // 2 * 2] for c in range(len(row))] for r, row in enumerate(plane)]
+
+
+def shown_of(pixels, y, u, v):
+    def chroma(plane, r, c):
+        if left_out(r, c):
+            return plane[r][c]
+        a, *others = block_at(plane, r, c)
+        return filtered_of(a, sum(others))
+
+    return [[reverse_of(y[r][c], chroma(u, r, c), chroma(v, r, c)) for c in range(len(row))] for r, row in enumerate(pixels)]
+
+
+def made_by(pixels, rule):
+    y, u, v = planes_of(pixels, rule)
+    return Made([y, u, v], shown_of(pixels, y, from_main(u), from_main(v)), shown_of(pixels, y, u, v))
+
+
+# --- The library.
+
+def cut(numbers, count):
+    return [numbers[k:k + count] for k in range(0, len(numbers), count)]
+
+
+def made_in(pixels, planes, *shown):
+    """What three lines of the library's answer say, row by row."""
+    height, width = len(pixels), len(pixels[0])
+    return Made(cut(cut(planes, round_up(16, width)), round_up(16, height)), *(cut([tuple(pixel) for pixel in cut(line, 3)], width) for line in shown))
+
+
+def ways_of(maps):
+    said = through_library('maps', [[len(pixels[0]), len(pixels), *(byte for row in pixels for pixel in row for byte in pixel)] for pixels in maps])
+    if len(said) != 6 * len(maps):
+        stop(f'{len(maps)} maps were sent, and {len(said)} lines came back, not six for each')
+    ways = [Way(pixels, made_in(pixels, *six[:3]), made_in(pixels, *six[3:])) for pixels, six in zip(maps, cut(said, 6))]
+    for way in ways:
+        for rule in ('rust', 'filled'):
+            for part, found, worked_out in zip(Made._fields, getattr(way, rule), made_by(way.pixels, rule)):
+                if found != worked_out:
+                    stop(f'the library and the rules differ in a map of {len(way.pixels[0])}x{len(way.pixels)}, {NAMES[rule]}: {NAMES.get(part, part)}')
+    return ways
+
+
+# --- What is told of a map.
+
+def off(pixel, other):
+    """How far a pixel is off: the largest difference of a channel."""
+    return max(abs(a - b) for a, b in zip(pixel, other))
+
+
+def mean(numbers):
+    return f'{sum(numbers) / len(numbers):.1f}'
+
+
+def row_of(*cells):
+    return '| ' + ' | '.join(map(str, cells)) + ' |'
