@@ -170,8 +170,12 @@ def reversed_of(a, s):
     return clamp(4 * a - s)
 
 
+def applied_of(a, s):
+    return abs(reversed_of(a, s) - a) >= 30
+
+
 def filtered_of(a, s):
-    return a if abs(reversed_of(a, s) - a) < 30 else reversed_of(a, s)
+    return reversed_of(a, s) if applied_of(a, s) else a
 
 
 # --- The rules: colour/specs/Products.antt.

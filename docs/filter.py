@@ -9,7 +9,7 @@ It needs a C compiler (cc) and makes the library first where that is not made (o
 """
 import colorsys
 
-from drawings import BLUE, INK, average_of, box, forward_of, hexadecimal, ink_on, lines, picture, reversed_of, text
+from drawings import BLUE, INK, applied_of, average_of, box, forward_of, hexadecimal, ink_on, lines, picture, text
 from through import asked, keep, stop, through_library
 
 PAPER = (255, 255, 255)
@@ -29,8 +29,7 @@ HUES, LIGHTS = range(0, 360, 10), range(90, 0, -10)
 
 def applied(samples):
     """Whether the filter replaces the average of a block of four samples."""
-    a, s = average_of(samples), sum(samples[1:])
-    return abs(reversed_of(a, s) - a) >= 30
+    return applied_of(average_of(samples), sum(samples[1:]))
 
 
 # --- The library.

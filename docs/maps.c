@@ -1,11 +1,11 @@
 /* Maps through the library by both edge rules, for docs/maps.py. A line of input has a map: its width and height, then red, green and blue
- * of each pixel, row by row. For each of haythaw_from_rgba_rust and haythaw_from_rgba, in this order, there are three lines of output: the
- * picture's planes Y, U and V; the pixels that are shown once its main view alone was applied to a fresh picture; and the pixels once its
- * auxiliary view (V1) came too. */
+ * of each pixel, row by row. For each of haythaw_from_rgba_rust and haythaw_from_rgba, in this order, there are four lines of output: the
+ * picture's planes Y, U and V; the pixels that are shown once its main view alone was applied to a fresh picture; the pixels once its
+ * auxiliary view (V1) came too; and of these, for each pixel of even row and even column, whether U and whether V was filtered. */
 #include <haythaw.h>
 #include <stdio.h>
 
-enum { SIDE = 64, PLANE = SIDE * SIDE, HALF = PLANE / 4 };
+enum { SIDE = 512, PLANE = SIDE * SIDE, HALF = PLANE / 4 };
 typedef struct { uint8_t y[PLANE], u[PLANE], v[PLANE]; } picture;
 typedef struct { uint8_t y[PLANE], u[HALF], v[HALF]; } view;
 typedef uint32_t from_rgba(const uint8_t *, size_t, uint16_t, uint16_t, uint8_t *, size_t, uint8_t *, size_t, uint8_t *, size_t);
@@ -33,6 +33,18 @@ static int update(apply *applied, const view *from, haythaw_views views, uint16_
     return back.number == HAYTHAW_DONE && back.count == (size_t)width * height * 4 && printf("\n") == 1;
 }
 
+static int filtered(uint16_t width, uint16_t height)
+{
+    for (unsigned row = 0; row < height; row += 2)
+        for (unsigned column = 0; column < width; column += 2) {
+            const haythaw_pixels one = haythaw_to_rgba(width, height, shown.y, PLANE, shown.u, PLANE, shown.v, PLANE, (uint16_t)column, (uint16_t)row,
+                                                       (uint16_t)(column + 1), (uint16_t)(row + 1), out, sizeof out);
+            if (one.number != HAYTHAW_DONE || printf("%zu %zu ", one.filtered_u, one.filtered_v) < 0)
+                return 0;
+        }
+    return printf("\n") == 1;
+}
+
 static int way(from_rgba *made, uint16_t width, uint16_t height)
 {
     if (made(rgba, sizeof rgba, width, height, sent.y, PLANE, sent.u, PLANE, sent.v, PLANE) != HAYTHAW_DONE
@@ -43,7 +55,7 @@ static int way(from_rgba *made, uint16_t width, uint16_t height)
     const size_t plane = (size_t)views.width * views.height;
     print(sent.y, plane, 1), print(sent.u, plane, 1), print(sent.v, plane, 1);
     return views.number == HAYTHAW_DONE && printf("\n") == 1 && update(haythaw_apply_main_view, &luma, views, width, height)
-        && update(haythaw_apply_auxiliary_v1, &chroma, views, width, height);
+        && update(haythaw_apply_auxiliary_v1, &chroma, views, width, height) && filtered(width, height);
 }
 
 int main(void)

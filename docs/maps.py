@@ -2,11 +2,12 @@
 RGBA by both calls, split, applied to a fresh picture, and to RGBA. What comes back is held to the rules' own formulas, worked out here."""
 from collections import namedtuple
 
-from drawings import average_of, filtered_of, forward_of, left_out, reverse_of, round_up
+from drawings import applied_of, average_of, filtered_of, forward_of, left_out, reverse_of, round_up
 from through import stop, through_library
 
-# What a call makes of a map: the planes Y, U and V, row by row; the pixels that are shown with the main view alone, and with both views.
-Made = namedtuple('Made', 'planes alone both')
+# What a call makes of a map: the planes Y, U and V, row by row; the pixels that are shown with the main view alone, and with both views; and of each
+# block, row by row, whether the filter was then applied to U, and to V.
+Made = namedtuple('Made', 'planes alone both applied')
 # The pixels of a map, row by row, and what the two calls make of it.
 Way = namedtuple('Way', 'pixels rust filled')
 NAMES = {'rust': 'the Rust’s rule', 'filled': 'edge filled', 'alone': 'main view alone', 'both': 'both views'}
@@ -53,9 +54,17 @@ def shown_of(pixels, y, u, v):
     return [[reverse_of(y[r][c], chroma(u, r, c), chroma(v, r, c)) for c in range(len(row))] for r, row in enumerate(pixels)]
 
 
+def applied_in(pixels, *chroma):
+    def applied(plane, r, c):
+        a, *others = block_at(plane, r, c)
+        return applied_of(a, sum(others))
+
+    return [[tuple(applied(plane, r, c) for plane in chroma) for c in range(0, len(pixels[0]), 2)] for r in range(0, len(pixels), 2)]
+
+
 def made_by(pixels, rule):
     y, u, v = planes_of(pixels, rule)
-    return Made([y, u, v], shown_of(pixels, y, from_main(u), from_main(v)), shown_of(pixels, y, u, v))
+    return Made([y, u, v], shown_of(pixels, y, from_main(u), from_main(v)), shown_of(pixels, y, u, v), applied_in(pixels, u, v))
 
 
 # --- The library.
@@ -64,17 +73,23 @@ def cut(numbers, count):
     return [numbers[k:k + count] for k in range(0, len(numbers), count)]
 
 
-def made_in(pixels, planes, *shown):
-    """What three lines of the library's answer say, row by row."""
+def tuples(numbers, each, count):
+    """The numbers as rows of so many tuples of `each` numbers."""
+    return cut([tuple(some) for some in cut(numbers, each)], count)
+
+
+def made_in(pixels, planes, alone, both, applied):
+    """What four lines of the library's answer say, row by row."""
     height, width = len(pixels), len(pixels[0])
-    return Made(cut(cut(planes, round_up(16, width)), round_up(16, height)), *(cut([tuple(pixel) for pixel in cut(line, 3)], width) for line in shown))
+    return Made(cut(cut(planes, round_up(16, width)), round_up(16, height)), tuples(alone, 3, width), tuples(both, 3, width),
+                tuples(applied, 2, round_up(2, width) // 2))
 
 
 def ways_of(maps):
     said = through_library('maps', [[len(pixels[0]), len(pixels), *(byte for row in pixels for pixel in row for byte in pixel)] for pixels in maps])
-    if len(said) != 6 * len(maps):
-        stop(f'{len(maps)} maps were sent, and {len(said)} lines came back, not six for each')
-    ways = [Way(pixels, made_in(pixels, *six[:3]), made_in(pixels, *six[3:])) for pixels, six in zip(maps, cut(said, 6))]
+    if len(said) != 8 * len(maps):
+        stop(f'{len(maps)} maps were sent, and {len(said)} lines came back, not eight for each')
+    ways = [Way(pixels, made_in(pixels, *eight[:4]), made_in(pixels, *eight[4:])) for pixels, eight in zip(maps, cut(said, 8))]
     for way in ways:
         for rule in ('rust', 'filled'):
             for part, found, worked_out in zip(Made._fields, getattr(way, rule), made_by(way.pixels, rule)):
