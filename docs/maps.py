@@ -1,5 +1,6 @@
-"""Maps through the library, for the pages that show what becomes of one: docs/edge.py. Each goes through docs/maps.c, over bind/c/haythaw.h: from
-RGBA by both calls, split, applied to a fresh picture, and to RGBA. What comes back is held to the rules' own formulas, worked out here."""
+"""Maps through the library, for the pages that show what becomes of one: docs/edge.py and docs/colour_error.py. Each goes through docs/maps.c, over
+bind/c/haythaw.h: from RGBA by both calls, split, applied to a fresh picture, and to RGBA. What comes back is held to the rules' own formulas, worked
+out here."""
 from collections import namedtuple
 
 from drawings import applied_of, average_of, filtered_of, forward_of, left_out, reverse_of, round_up

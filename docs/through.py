@@ -1,5 +1,6 @@
-"""The way through the library, for the pages whose every number it answered: docs/filter.py has blocks of it, docs/edge.py maps, by docs/maps.py.
-Behind it is a C program, docs/filter.c or docs/maps.c, over bind/c/haythaw.h, that reads lines of numbers and answers such lines."""
+"""The way through the library, for the pages whose every number it answered: docs/filter.py, docs/edge.py and docs/colour_error.py, these two by
+docs/maps.py. It leads through a C program over bind/c/haythaw.h (docs/filter.c, docs/maps.c, docs/colour_error.c), which reads lines of numbers and
+answers such lines."""
 import os
 import subprocess
 import sys
