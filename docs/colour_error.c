@@ -33,8 +33,7 @@ static int extremes(int step, int below, int above)
     const uint16_t side = (uint16_t)(2 * count);
     for (int k = 0; k < side * side; k++)
         luma[k] = own[0][0];
-    for (int k = 0; k < count * count; k++)         /* what is no byte leaves the sample as it is */
-    {
+    for (int k = 0; k < count * count; k++) { /* what is no byte leaves the sample as it is */
         const int one = own[1][0] + k / count - below, other = own[2][0] + k % count - below;
         u[k] = (uint8_t)(one >= 0 && one < 256 ? one : own[1][0]), v[k] = (uint8_t)(other >= 0 && other < 256 ? other : own[2][0]);
     }

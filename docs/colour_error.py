@@ -12,8 +12,8 @@ from collections import namedtuple
 from functools import cache
 from itertools import groupby, product
 
-from drawings import (BLUE, GREY, INK, ORANGE, applied_of, average_of, box, clamp, filtered_of, forward_of, green_u_product, green_v_product, blue_product,
-                      hexadecimal, left_out, lines, path, picture, red_product, reverse_of, text, used)
+from drawings import (BLUE, GREY, INK, ORANGE, applied_of, average_of, blue_product, box, clamp, filtered_of, forward_of, green_u_product,
+                      green_v_product, hexadecimal, left_out, lines, path, picture, red_product, reverse_of, text, used)
 from maps import block_at, cut, off, row_of, ways_of
 from through import asked, keep, stop, through_library
 
@@ -57,8 +57,10 @@ DRAWINGS = {
     'dot': Drawing('a dot on white, in an even row and an even column', lambda bar: [pairs(bar, WHITE), pairs(WHITE, WHITE)], even_even),
     'elsewhere': Drawing('a dot on white, in an odd row and an odd column', lambda bar: [pairs(WHITE, WHITE), pairs(WHITE, bar)],
                          lambda step: (1, 2 * step + 1))}
-WHITE_LINE = DRAWINGS['line']._replace(rows=lambda bar: [pairs(bar, bar), pairs(WHITE, WHITE)])
 WORST = 'dotted'
+# Drawings that say the same as others do: a white line, and a last row whose blocks are half padding.
+LIKE_OTHERS = {'white': Drawing('beside a white line', lambda bar: [pairs(bar, bar), pairs(WHITE, WHITE)], even_even),
+               'last': Drawing('in the last row of an odd height', lambda bar: [pairs(bar, bar)], even_even)}
 
 # One pixel whose U is as far from its block's average as can be.
 FARTHEST = [[(255, 255, 0), (0, 0, 255)], [(0, 0, 255), (0, 0, 255)]]
@@ -87,22 +89,23 @@ def reading(name, pixel):
 Seen = namedtuple('Seen', 'alone both read_alone read_both off_alone off_both applied')
 
 
-def chroma_off(way, r, c):
+def chroma_off(pixels, made, r, c):
     """How far U and V are off from the sample before averaging, with the main view alone and with both."""
     alone, both = [], []
-    for plane, sample in zip(way.filled.planes[1:], forward_of(*way.pixels[r][c])[1:]):
+    for plane, sample in zip(made.planes[1:], forward_of(*pixels[r][c])[1:]):
         a, *others = block_at(plane, r // 2 * 2, c // 2 * 2)
         alone.append(a - sample)
         both.append((plane[r][c] if left_out(r, c) else filtered_of(a, sum(others))) - sample)
     return alone, both
 
 
-def seen_in(way, name, place):
+def seen_in(name, pixels, made, place):
+    """What is seen of a drawing of a bar, by what one of both calls makes of it."""
     places = [place(step) for step in range(STEPS)]
-    shown = [[part[r][c] for r, c in places] for part in (way.filled.alone, way.filled.both)]
-    read = [[reading(name, pixel) - step for step, pixel in enumerate(pixels)] for pixels in shown]
-    applied = [(False, False) if left_out(r, c) else way.filled.applied[r // 2][c // 2] for r, c in places]
-    return Seen(*shown, *read, *zip(*(chroma_off(way, r, c) for r, c in places)), applied)
+    shown = [[part[r][c] for r, c in places] for part in (made.alone, made.both)]
+    read = [[reading(name, pixel) - step for step, pixel in enumerate(row)] for row in shown]
+    applied = [(0, 0) if left_out(r, c) else made.applied[r // 2][c // 2] for r, c in places]
+    return Seen(*shown, *read, *zip(*(chroma_off(pixels, made, r, c) for r, c in places)), applied)
 
 
 def own(pixel):
@@ -111,10 +114,18 @@ def own(pixel):
 
 
 def hold_drawing(way):
-    """What the page says of every drawing: both edge rules show it alike, and with both views the pixels of odd rows and odd columns are their own."""
-    if way.rust[1:] != way.filled[1:] or any(way.filled.both[r][c] != own(pixel) for r, row in enumerate(way.pixels) for c, pixel in enumerate(row)
-                                             if left_out(r, c)):
-        stop('what the page says of every drawing does not hold')
+    """What holds of every drawing: by both edge rules the pixels of odd rows and odd columns are their own with both views, and U and V of the others
+    are off within the bounds; and with an even height both rules show it alike."""
+    for r, c in product(range(len(way.pixels)), range(len(way.pixels[0]))):
+        for made in (way.rust, way.filled):
+            if left_out(r, c) and made.both[r][c] != own(way.pixels[r][c]):
+                stop('what the page says of odd rows and odd columns does not hold')
+            for away, applied in zip(chroma_off(way.pixels, made, r, c)[1], made.applied[r // 2][c // 2]):
+                below, above = APPLIED if applied else ANYWHERE
+                if not -below <= away <= above:
+                    stop('what the page says of the bounds does not hold')
+    if len(way.pixels) % 2 == 0 and way.rust[1:] != way.filled[1:]:
+        stop('what the page says of both edge rules does not hold')
 
 
 # --- How far a reading can be off.
@@ -168,7 +179,7 @@ def chroma_bounds():
     where it was applied."""
     anywhere, applied = set(), set()
     for sample, s in product(range(256), range(3 * 255 + 1)):
-        a = (sample + s + 2) // 4
+        a = average_of([sample, s])
         anywhere.add(filtered_of(a, s) - sample)
         if applied_of(a, s):
             applied.add(filtered_of(a, s) - sample)
@@ -180,15 +191,15 @@ def channel_bounds(below, above):
     larger; what the products add to green depends on them by their sum alone."""
     offs = range(-below, above + 1)
 
-    def ends(shares):
+    def least_and_most(shares):
         return min(shares), max(shares)
 
     def one(product_of):
-        return ends({product_of(i + d) // 256 - product_of(i) // 256 for i in range(256) for d in offs if 0 <= i + d < 256})
+        return least_and_most({product_of(i + d) // 256 - product_of(i) // 256 for i in range(256) for d in offs if 0 <= i + d < 256})
 
     rests = {(green_u_product(i) + green_v_product(j)) % 256 for i, j in product(range(256), range(256))}
     added = {green_u_product(128 + d) + green_v_product(128 + e) for d, e in product(offs, offs)}
-    return one(red_product), ends({(rest + more) // 256 for rest in rests for more in added}), one(blue_product)
+    return one(red_product), least_and_most({(rest + more) // 256 for rest in rests for more in added}), one(blue_product)
 
 
 def hold_bounds():
@@ -234,7 +245,7 @@ def wrong_side(read):
     return sum((step < STEPS // 2) != (step + away < STEPS // 2) for step, away in enumerate(read))
 
 
-def hold_words(seen):
+def hold_words(seen, by_rust):
     """What the page says beside its numbers."""
     def average(key, part):
         return sum(map(abs, getattr(seen['rainbow', key], 'read_' + part)))
@@ -243,14 +254,17 @@ def hold_words(seen):
         return max(map(abs, getattr(seen[name, key], 'read_' + part)))
 
     for name, bar in BARS.items():
-        plain, near, white, line, dot, elsewhere = (seen[name, key] for key in ('plain', 'near', 'white', 'line', 'dot', 'elsewhere'))
+        plain, near, line, dot, elsewhere = (seen[name, key] for key in ('plain', 'near', 'line', 'dot', 'elsewhere'))
         if not plain.alone == plain.both == elsewhere.both == [own(colour) for colour in bar] or dot.read_alone != elsewhere.read_alone:
             stop('what the page says of rounding, or of dots, does not hold')
-        if near.alone != near.both or any(map(any, near.applied)) or white != line:
-            stop('what the page says of a field 5 °C away, or of a white line, does not hold')
+        if near.alone != near.both or any(map(any, near.applied)):
+            stop('what the page says of a field 5 °C away does not hold')
+        if not seen[name, 'white'] == by_rust[name, 'last'] == line or seen[name, 'last'] != plain:
+            stop('what the page says of a white line, or of a last row, does not hold')
     if (largest('rainbow', 'plain'), largest('blue-white-red', 'plain'), largest('rainbow', 'bar', 'alone')) != (1, 2, 1):
         stop('what the page says of the conversion\'s own rounding does not hold')
-    if not (average('dotted', 'alone') < average('line', 'alone') and average('line', 'both') < average('dotted', 'both')):
+    kept = {key: sum(not any(pair) for pair in seen['rainbow', key].applied) for key in ('line', 'dotted')}
+    if not (average('dotted', 'alone') < average('line', 'alone') and average('line', 'both') < average('dotted', 'both') and kept['line'] < kept['dotted']):
         stop('what the page says of a dotted line does not hold')
     if not average('near', 'both') > average('far', 'both') > average('farther', 'both') or wrong_side(seen['blue-white-red', 'plain'].read_both):
         stop('what the page says of fields does not hold')
@@ -288,7 +302,7 @@ def head_words(seen, reach):
 
 
 def proved_words(farthest):
-    most = chroma_off(farthest, 0, 0)[0][0]
+    most = chroma_off(farthest.pixels, farthest.filled, 0, 0)[0][0]
     if most != max(average_of([0, 255, 255, 255]), 255 - average_of([255, 0, 0, 0])):
         stop('what the page says of the main view alone does not hold')
     return [
@@ -299,7 +313,8 @@ def proved_words(farthest):
         '',
         '- What the filter answers for an even-even sample lies between 30 below and 31 above the sample before averaging.',
         '- Where the filter is applied, it lies between 1 below and 2 above. No smaller numbers would do, here or there: the last table has colours that reach each.',
-        '- The other three samples of a block come back as they were, and so does every sample of a block of one colour.',
+        '- The other three samples of a block come back as they were, and so does every sample of a block of one colour: there only the conversion\'s own rounding',
+        '  is left.',
         '- The forward clamp (R31) never acts, on any RGB triple: no colour is cut before it is averaged.',
         '',
         'Where the numbers come from: four times the average is the sum of the four, but for rounding, which leaves it between 1 below and 2 above. So the average',
@@ -319,9 +334,9 @@ def proved_words(farthest):
 def reading_rows(seen, reach):
     """A row for each drawing: how far readings of both bars are off, with the main view alone and with both views."""
     rows = []
-    for key, drawing in DRAWINGS.items():
+    for key, drawn in DRAWINGS.items():
         found = [told(steps) for name in BARS for steps in (seen[name, key].read_alone, seen[name, key].read_both)]
-        rows.append(row_of(drawing.words, *(f'{average}, at most {most}' for average, most in found)))
+        rows.append(row_of(drawn.words, *(f'{average}, at most {most}' for average, most in found)))
     for words, bounds in (('whatever is drawn around it', ANYWHERE), ('the same, and the filter applied to U and V', APPLIED)):
         rows.append(row_of(words, *(cell for name in BARS for cell in ('', f'at most {degrees(max(reach_of(reach[name, bounds])))}'))))
     return rows
@@ -336,8 +351,8 @@ def turned_words(seen):
         stop('what the page says of a cold step that is read as a warm one does not hold')
     drawn, beside, shown = map(hexadecimal, (bar[step], bar[other], one.both[step]))
     return [
-        f'On blue-white-red a cold pixel can be read as a warm one: `{drawn}`, {temperature(step)}, left of `{beside}`, {temperature(other)}, is shown with both views as `{shown}`,',
-        f'which is nearest to {temperature(read)}. Its U is {-u} below and its V {v} above, and so little the filter keeps. At the edge of a field 20 °C away',
+        f'On blue-white-red a cold pixel can be read as a warm one: `{drawn}`, {temperature(step)}, left of `{beside}`, {temperature(other)}, is shown with both',
+        f'views as `{shown}`, which is nearest to {temperature(read)}. Its U is {-u} below and its V {v} above; averages as near are kept. At the edge of a field 20 °C away',
         f'{wrong_side(one.read_both)} of {STEPS} steps are read on the other side of 0 °C, and {wrong_side(one.read_alone)} with the main view alone;'
         f' on the rainbow {wrong_side(rainbow.read_both)}, and {wrong_side(rainbow.read_alone)} with the main view alone.']
 
@@ -348,10 +363,10 @@ def reading_words(seen, reach):
     return [
         '## What it means for a reading',
         '',
-        f'Two bars of {STEPS} steps, both read from -40 to +40 °C, so that a step is {degrees(1)} °C; a bar over 20 °C has a quarter of each number here. The rainbow is the one',
-        'that plotting programs call jet: with k = 3, 2 and 1 for red, green and blue, step n has 383 - |4n - 255k|, cut to 0..255. Blue-white-red (bwr) is common for',
-        'anomalies: red is 2n and blue 510 - 2n, both at most 255, and green is the smaller of 2n and 510 - 2n. Read is the step whose colour is nearest to the one',
-        'that is shown: of the least sum of the squared differences of red, green and blue, and of several such the lowest.',
+        f'Two bars of {STEPS} steps, both read from -40 to +40 °C, so that a step is {degrees(1)} °C; a bar over 20 °C has a quarter of each number here. The',
+        'rainbow is the one that plotting programs call jet: with k = 3, 2 and 1 for red, green and blue, step n has 383 - |4n - 255k|, cut to 0..255. Blue-white-red',
+        '(bwr) is common for anomalies: red is 2n and blue 510 - 2n, both at most 255, and green is the smaller of 2n and 510 - 2n. Read is the step whose colour is',
+        'nearest to the one that is shown: of the least sum of the squared differences of red, green and blue, and of several such the lowest.',
         '',
         f'How far the {STEPS} steps are off in °C, on average and at most:',
         '',
@@ -362,13 +377,18 @@ def reading_words(seen, reach):
         'In a block of one colour the average is the colour: that row is the conversion\'s own rounding, and what the others have beyond it comes of the averaging. Each',
         'step has a 2x2 block of its own and is read at its even-even pixel, but in the bar itself, where every second step is in an odd column, and in the last dots. A',
         'black line is the lower row of the block (a white one gives the same: U and V of both are 128), a dotted one the lower right pixel, a field the right column.',
+        'The last row of a map of odd height is read as beside a black line by the Rust\'s edge rule, whose padding is 128 too, and as in a block of one colour where',
+        'the edge is filled.',
+        '',
+        'The last two rows of the table are of every U and V within the proved bounds, beside the step\'s own Y, each shown by the library: no drawing is read worse.',
         '',
         'With both views the largest contrast is not what costs most on the rainbow, since the filter is applied to it, but a middling one, which is kept:',
         '',
         '- At the edge of a field 5 °C away the filter is applied to no step of either bar. Both views show there what the main view shows,',
         f'  {told(near.read_both)[0]} °C off on average; 20 °C away it is {told(farther.read_both)[0]}.',
-        f'- A dotted line costs less than a whole one with the main view alone, {at_dots} and {at_line} °C, and more with both views, {at_dots_both} and {at_line_both}: it moves the',
-        '  average less, which is then kept. It is the worst drawing here: U and V reach both bounds. The picture\'s last row has it.',
+        f'- A dotted line costs less than a whole one with the main view alone, {at_dots} and {at_line} °C, and more with both views, {at_dots_both} and {at_line_both}:',
+        '  it moves the average less, which is then kept more often. On the rainbow it is then the farthest off of all drawings here, and U and V reach both bounds:',
+        '  the picture\'s last row has them.',
         '',
         *turned_words(seen),
         '']
@@ -377,11 +397,11 @@ def reading_words(seen, reach):
 def byte_words(seen):
     """How far U, V and a channel of the rainbow are off, and to how many steps the filter was applied."""
     rows = []
-    for key, drawing in DRAWINGS.items():
+    for key, drawn in DRAWINGS.items():
         one = seen['rainbow', key]
         chroma = [ends(numbers) for pairs_off in (one.off_alone, one.off_both) for numbers in zip(*pairs_off)]
         channel = [max(map(off, BARS['rainbow'], shown)) for shown in (one.alone, one.both)]
-        rows.append(row_of(drawing.words, *chroma, *channel, *map(sum, zip(*one.applied))))
+        rows.append(row_of(drawn.words, *chroma, *channel, *map(sum, zip(*one.applied))))
     return [
         'The same in bytes, for the rainbow. "Channel" is the largest difference of red, green or blue from what was drawn; the last columns say to how many steps',
         'the filter was applied.',
@@ -393,7 +413,8 @@ def byte_words(seen):
 
 
 def advice(seen, reach):
-    (_, most), (_, other_most), (dot, _) = (told(steps) for steps in (*(seen[name, 'plain'].read_both for name in BARS), seen['rainbow', 'dot'].read_alone))
+    most, other_most = (told(seen[name, 'plain'].read_both)[1] for name in BARS)
+    dot = told(seen['rainbow', 'dot'].read_alone)[0]
     applied, other_applied = (degrees(max(reach_of(reach[name, APPLIED]))) for name in BARS)
     return [
         '## How to read well',
@@ -404,8 +425,8 @@ def advice(seen, reach):
         '- Or read where the 2x2 block, from an even row and an even column on, has one colour. There the main view alone is as good. Who draws the map can see to',
         '  it: fields and lines that start at even rows and columns and are an even number of pixels wide share no block.',
         '- At an even-even pixel ask whether the filter was applied: of a rectangle of that one pixel, `filtered_u` and `filtered_v` of `haythaw_to_rgba`,',
-        f'  `to_rgba_counted` in [bind/rust](../bind/rust/README.md). If both are 1, a reading is at most {applied} °C off on the rainbow, and {other_applied} on the other. A 0 says',
-        '  less: the block may have one colour, or an average of several was kept.',
+        f'  `to_rgba_counted` in [bind/rust](../bind/rust/README.md). If both are 1, a reading is at most {applied} °C off on the rainbow, and {other_applied} on the',
+        '  other. A 0 says less: the block may have one colour, or an average of several was kept.',
         '']
 
 
@@ -416,7 +437,7 @@ def blocks_of(k):
 
 def case_row(k, way, sample, others, answer):
     """A smallest case in U, or in V: its colours, and what the library makes of them."""
-    a, applied, away = way.filled.planes[1 + k][0][0], bool(way.filled.applied[0][0][k]), chroma_off(way, 0, 0)[1][k]
+    a, applied, away = way.filled.planes[1 + k][0][0], bool(way.filled.applied[0][0][k]), chroma_off(way.pixels, way.filled, 0, 0)[1][k]
     first, *rest = (pixel for row in way.pixels for pixel in row)
     if [forward_of(*pixel)[1 + k] for pixel in (first, *rest)] != [sample, *others] or away != answer - sample or applied != applied_of(a, sum(others)) \
             or away not in ((-APPLIED[0], APPLIED[1]) if applied else (-ANYWHERE[0], ANYWHERE[1])):
@@ -464,7 +485,7 @@ def way_over(panel, values):
 def strip(colours):
     """A line for each step, wide enough to leave no seam."""
     drawn = ''.join(f'<path d="M{step} 0v{THICK}" stroke="{hexadecimal(colour)}"/>' for step, colour in enumerate(colours))
-    return f'<g transform="scale({WIDTH} 1) translate(0.5)" stroke-width="1.4">{drawn}</g>'
+    return f'<g transform="scale({WIDTH} 1) translate(0.5)" stroke-width="1.4" shape-rendering="crispEdges">{drawn}</g>'
 
 
 def signed(number):
@@ -553,17 +574,17 @@ def chroma_drawn(panel, k, one):
     return out + below(panel), words + '.'
 
 
-def drawing(seen, reach):
+def chart(seen, reach):
     out, said, y = [], [], 132
-    words = ['A rainbow bar of 256 steps from −40 to +40 °C; a step is read by the nearest colour of the bar. The blue line says how far the reading is off:',
+    words = ['A rainbow bar of 256 steps from −40 to +40 °C; a step is read by the nearest colour of the bar. The thick line says how far the reading is off:',
              'above 0 too warm, below 0 too cold. Left the main view alone, right both views. The small square is the 2x2 block, the ring the pixel that is read.',
-             'Grey: with both views no reading is outside, whatever is drawn around the pixel. At the foot of it: where the filter was applied to U, and to V.',
-             'The first row has a scale of its own, and in orange the conversion’s own rounding, with nothing averaged.']
+             'Grey, with dashed edges: no reading with both views is outside, whatever is drawn around the pixel. The bars below it: where the filter was applied',
+             'to U, and to V. The first row has a scale of its own, and a thin line: the conversion’s own rounding, with nothing averaged.']
     for name in PLOTTED:
         drawn, sentence, y = row_drawn(y, name, seen, reach['rainbow', ANYWHERE])
         out, said = out + drawn, said + [sentence]
     title = f'How far U and V are off {DRAWINGS[WORST].words}, in steps of the sample'
-    keys = 'Blue: the average is kept. Dots: the filter was applied. Whole lines: the bounds, −30 and +31. Dashed: the bounds where it was applied, −1 and +2.'
+    keys = 'Line: the average is kept. Dots: the filter was applied. Whole lines: the bounds, −30 and +31. Dashed: the bounds where it was applied, −1 and +2.'
     out += [*block_drawn(12, y - 15, DRAWINGS[WORST], BARS['rainbow']), text(48, y, title, 14, font_weight='bold'), text(48, y + 17, keys, 11.5)]
     for k, x in enumerate(PANELS):
         drawn, sentence = chroma_drawn(Panel(x, y + 46, 122, 38), k, seen['rainbow', WORST])
@@ -573,18 +594,20 @@ def drawing(seen, reach):
 
 
 def main():
-    checking, drawings = asked(__doc__), {**DRAWINGS, 'white': WHITE_LINE}
+    checking, drawings = asked(__doc__), {**DRAWINGS, **LIKE_OTHERS}
     hold_bounds()
     keys, blocks = list(product(BARS, drawings)), [*(block for k in (0, 1) for block in blocks_of(k)), FARTHEST]
     ways = ways_of([*(drawings[key].rows(BARS[name]) for name, key in keys), *blocks])
     for way in ways:
         hold_drawing(way)
-    seen = {(name, key): seen_in(way, name, drawings[key].place) for (name, key), way in zip(keys, ways)}
+    seen, by_rust = ({(name, key): seen_in(name, way.pixels, getattr(way, rule), drawings[key].place) for (name, key), way in zip(keys, ways)}
+                     for rule in ('filled', 'rust'))
     reach = reaches()
-    hold_reaches(seen, reach)
-    hold_words(seen)
+    for one in (seen, by_rust):
+        hold_reaches(one, reach)
+    hold_words(seen, by_rust)
     *cases, farthest = ways[len(keys):]
-    keep({'COLOUR_ERROR.md': page(seen, reach, cases, farthest), 'colour_error.svg': drawing(seen, reach)}, checking)
+    keep({'COLOUR_ERROR.md': page(seen, reach, cases, farthest), 'colour_error.svg': chart(seen, reach)}, checking)
     if checking:
         print(f'colour_error: docs/COLOUR_ERROR.md and docs/colour_error.svg say of {len(ways)} drawings what the library answers')
 
