@@ -1,4 +1,4 @@
-// The colour arithmetic on bytes. It serves the runs that compare the port with its original, and is in no header.
+// The colour arithmetic on bytes. It serves the tests and the runs that compare the port with its original, and is in no header.
 ghost use mathlib.Core.Path.{_≡_};
 ghost use mathlib.Core.List.{[], _∷_};
 ghost use Rattle.colour.specs.Colour.{forwardOf, reverseOf, averageOf, undoneIn};
