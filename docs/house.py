@@ -13,7 +13,7 @@ from xml.sax.saxutils import escape
 ROOT = os.path.dirname(os.path.dirname(os.path.abspath(__file__)))
 PICTURE = os.path.join(ROOT, 'docs', 'house.svg')
 KIT = {'io', 'libc', 'os', 'bytes', 'check'}  # the kit's own libraries are not part of the house
-COLOURS = ['#e8e4f3', '#dcecf7', '#fde8d7', '#e3f1dc', '#f9dfe6', '#fbf3cf', '#d9f0ee', '#ece7dc', '#dddddd']
+COLOURS = ['#e8e4f3', '#dcecf7', '#fde8d7', '#e3f1dc', '#f9dfe6', '#fbf3cf', '#d9f0ee', '#ece7dc', '#dddddd', '#e0e6f5']
 BOX, HIGH, COLUMN, ROW, TITLE, TOP, LEFT = 146, 28, 186, 38, 22, 0, 12
 
 
