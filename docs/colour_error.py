@@ -13,8 +13,8 @@ from itertools import product
 from colour_error_plot import chart
 from drawings import applied_of, average_of, forward_of, hexadecimal
 from maps import cut, off, row_of, ways_of
-from readings import (ANYWHERE, APPLIED, BARS, DRAWINGS, LIKE_OTHERS, STEPS, WORST, channel_bounds, chroma_off, degrees, ends, hold_bounds, hold_drawing,
-                      hold_reaches, inwards, own, reach_of, reaches, seen_in, temperature, told, wrong_side)
+from readings import (ANYWHERE, APPLIED, BARS, DEGREES, DRAWINGS, LIKE_OTHERS, STEPS, WORST, channel_bounds, chroma_off, degrees, ends, hold_bounds, hold_drawing,
+                      hold_reaches, inwards, measured, own, reach_of, reaches, seen_in, temperature, told, wrong_side)
 from through import asked, keep, stop
 
 # One pixel whose U is as far from its block's average as can be.
@@ -193,6 +193,16 @@ def byte_words(seen):
         '']
 
 
+def classes_words(bar):
+    """Of a bar in 16 classes, each with the colour of a step in its middle."""
+    found, (most, _) = measured('classes', [bar[step // 16 * 16 + 8] for step in range(STEPS)], DEGREES)
+    alone = max(at_most for _, at_most, _, _ in found.values())
+    if any(found[key][3] for key in ('plain', 'bar', 'farther', 'line', 'dot', 'elsewhere')) or round(most / DEGREES) != 16:
+        stop('what the page says of a bar in classes does not hold')
+    return [f'- Who draws the map can also take fewer colours. The rainbow in 16 classes of {16 * DEGREES:.2f} °C is read right with both views beside a black line, as a dot, and at',
+            f'  the edge of a field four classes away; whatever is drawn, it is at most one class off. With the main view alone it is up to {alone:.2f} °C off.']
+
+
 def advice(seen, reach):
     most, other_most = (told(seen[name, 'plain'].read_both)[1] for name in BARS)
     dot = told(seen['rainbow', 'dot'].read_alone)[0]
@@ -208,6 +218,9 @@ def advice(seen, reach):
         '- At an even-even pixel ask whether the filter was applied: of a rectangle of that one pixel, `filtered_u` and `filtered_v` of `haythaw_to_rgba`,',
         f'  `to_rgba_counted` in [bind/rust](../bind/rust/README.md). If both are 1, a reading is at most {applied} °C off on the rainbow, and {other_applied} on the',
         '  other. A 0 says less: the block may have one colour, or an average of several was kept.',
+        *classes_words(BARS['rainbow']),
+        '',
+        'A bar of your own: `docs/own_bar.py FILE LOWEST HIGHEST` prints the table of readings for it; FILE has red, green and blue of its 256 steps, a line each.',
         '']
 
 
@@ -251,7 +264,7 @@ def main():
         hold_drawing(way)
     seen, by_rust = ({(name, key): seen_in(name, way.pixels, getattr(way, rule), drawings[key].place) for (name, key), way in zip(keys, ways)}
                      for rule in ('filled', 'rust'))
-    reach = reaches()
+    reach = reaches(BARS)
     for one in (seen, by_rust):
         hold_reaches(one, reach)
     hold_words(seen, by_rust)

@@ -1,12 +1,12 @@
-"""Readings off a colour bar, for docs/colour_error.py: two bars of 256 steps that are read as temperatures, drawings of them, what is read of each
-drawing once it went through the library (docs/maps.py), and how far off a reading can be within the proved bounds (docs/colour_error.c)."""
+"""Readings off a colour bar, for docs/colour_error.py and docs/own_bar.py: two bars of 256 steps that are read as temperatures, drawings of a bar, what is
+read of each drawing once it went through the library (docs/maps.py), and how far off a reading can be within the proved bounds (docs/colour_error.c)."""
 from collections import namedtuple
 from functools import cache
 from itertools import product
 
 from drawings import (applied_of, average_of, blue_product, clamp, filtered_of, forward_of, green_u_product, green_v_product, left_out, red_product,
                       reverse_of)
-from maps import block_at, cut
+from maps import block_at, cut, ways_of
 from through import stop, through_library
 
 # A bar has 256 steps, read as temperatures. The proved bounds: how far below and above a sample is off, at most, and where the filter was applied.
@@ -40,10 +40,11 @@ def fields(away):
     return Drawing(f'at the edge of a field {away * DEGREES:.0f} °C away', lambda bar: [pairs(bar, inwards(bar, away))] * 2, even_even)
 
 
+FIELDS = {'near': 16, 'far': 32, 'farther': 64}    # how many steps away
 DRAWINGS = {
     'plain': Drawing('in a block of one colour', lambda bar: [pairs(bar, bar)] * 2, even_even),
     'bar': Drawing('in the bar itself, a pixel a step', lambda bar: [bar] * 2, lambda step: (0, step)),
-    'near': fields(16), 'far': fields(32), 'farther': fields(64),
+    **{key: fields(away) for key, away in FIELDS.items()},
     'line': Drawing('beside a black line', lambda bar: [pairs(bar, bar), pairs(BLACK, BLACK)], even_even),
     'dotted': Drawing('beside a dotted black line', lambda bar: [pairs(bar, bar), pairs(bar, BLACK)], even_even),
     'dot': Drawing('a dot on white, in an even row and an even column', lambda bar: [pairs(bar, WHITE), pairs(WHITE, WHITE)], even_even),
@@ -57,15 +58,22 @@ LIKE_OTHERS = {'white': Drawing('beside a white line', lambda bar: [pairs(bar, b
 
 # --- What is read.
 
-# Of each bar, each channel and each byte: the squared differences from all steps.
-SQUARES = {name: [[[(byte - colour[k]) ** 2 for colour in bar] for byte in range(256)] for k in range(3)] for name, bar in BARS.items()}
+@cache
+def squares_of(name):
+    """Of a bar, of each channel and each byte: the squared differences from all steps."""
+    return [[[(byte - colour[k]) ** 2 for colour in BARS[name]] for byte in range(256)] for k in range(3)]
 
 
 @cache
 def reading(name, pixel):
     """The step of a bar whose colour is nearest to the pixel's: of the least sum of squared differences, and of several such the lowest."""
-    sums = list(map(sum, zip(*(squares[byte] for squares, byte in zip(SQUARES[name], pixel)))))
+    sums = list(map(sum, zip(*(squares[byte] for squares, byte in zip(squares_of(name), pixel)))))
     return sums.index(min(sums))
+
+
+def value_of(name, step):
+    """What is read of a step's own colour: the step, or in a bar of fewer colours the lowest that has it."""
+    return reading(name, BARS[name][step])
 
 
 # What is seen of a drawing, for each step: the pixels that are shown with the main view alone and with both, the steps by which a reading of them is
@@ -87,7 +95,7 @@ def seen_in(name, pixels, made, place):
     """What is seen of a drawing of a bar, by what one of both calls makes of it."""
     places = [place(step) for step in range(STEPS)]
     shown = [[part[r][c] for r, c in places] for part in (made.alone, made.both)]
-    read = [[reading(name, pixel) - step for step, pixel in enumerate(row)] for row in shown]
+    read = [[reading(name, pixel) - value_of(name, step) for step, pixel in enumerate(row)] for row in shown]
     applied = [(0, 0) if left_out(r, c) else made.applied[r // 2][c // 2] for r, c in places]
     return Seen(*shown, *read, *zip(*(chroma_off(pixels, made, r, c) for r, c in places)), applied)
 
@@ -134,16 +142,16 @@ def reach_in(name, bounds, line):
             every = read_within(name, step, bounds)
             if (low, high) != (min(every), max(every)):
                 stop(f'the library and the rules differ in how far step {step} of the bar {name} can be off')
-        found.append((low - step, high - step))
+        found.append((low - value_of(name, step), high - value_of(name, step)))
     return found
 
 
-def reaches():
+def reaches(names):
     """Of each bar and both bounds: how far off the lowest and the highest reading are, for each step. The library showed every chroma in the bounds."""
-    wanted = list(product(BARS, (ANYWHERE, APPLIED)))
+    wanted = list(product(names, (ANYWHERE, APPLIED)))
     said = through_library('colour_error', [[*bounds, *(byte for colour in BARS[name] for byte in colour)] for name, bounds in wanted])
     if [len(line) for line in said] != [6 * STEPS] * len(wanted):
-        stop('two bars by two bounds were sent, and something else came back')
+        stop('bars were sent, each by two bounds, and something else came back')
     return {(name, bounds): reach_in(name, bounds, line) for (name, bounds), line in zip(wanted, said)}
 
 
@@ -227,3 +235,17 @@ def reach_of(steps):
 def wrong_side(read):
     """How many steps are read on the other side of 0 °C."""
     return sum((step < STEPS // 2) != (step + away < STEPS // 2) for step, away in enumerate(read))
+
+
+def measured(name, bar, step):
+    """Of one more bar, whose steps are so much apart: for each drawing how far a reading is off, on average and at most, with the main view alone and
+    with both; then the most that it can be off with both, anywhere, and where the filter was applied to U and V."""
+    BARS[name], found = bar, {}
+    for (key, drawing), way in zip(DRAWINGS.items(), ways_of([drawing.rows(bar) for drawing in DRAWINGS.values()])):
+        hold_drawing(way)
+        seen = seen_in(name, way.pixels, way.filled, drawing.place)
+        sizes = [list(map(abs, read)) for read in (seen.read_alone, seen.read_both)]
+        found[key] = [number for some in sizes for number in (sum(some) / STEPS * step, max(some) * step)]
+    reach = reaches([name])
+    del BARS[name]
+    return found, [max(reach_of(reach[name, bounds])) * step for bounds in (ANYWHERE, APPLIED)]
