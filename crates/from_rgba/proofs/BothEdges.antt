@@ -18,6 +18,7 @@ use Rattle.colour.specs.Colour.{forwardOf}
 use Rattle.colour.specs.declared.Yuv.{Yuv}
 use Rattle.picture.specs.declared.Size.{Size}
 use Rattle.picture.specs.Sizes.{strideOf, rowsOf, planeOf}
+use Rattle.picture.specs.New.{freshLuma}
 use Rattle.from_rgba.specs.declared.edges.Edge.{Edge}
 use Rattle.from_rgba.specs.declared.edges.Edge.the-variants.{Fresh, Filled}
 use Rattle.from_rgba.specs.Averaged.{averaged}
@@ -61,7 +62,12 @@ pub even-sides-agree : (z : Size) (p : ℕ → ℕ → ℕ) → z .width % 2 ≡
 even-sides-agree z p wide high =
     averaged-local (z .width) (z .height) wide high (withEdge Filled z p) p (λ r c hr hc. edged-inside Filled (z .width) (z .height) p r c hr hc)
 
--- ---- the luma of a pixel of the picture is its own, whatever the padding
+-- ---- a sample of the picture is its pixel's own before the average, whatever the padding; so is the luma that is left
+
+pub sample-own : (e : Edge) (z : Size) (s pad : ℕ → ℕ → ℕ) (r c : ℕ) → r < z .height → c < z .width
+    → withEdge e z (λ q k. cond (inPicture z q k) (s q k) (pad q k)) r c ≡ s r c
+sample-own e z s pad r c hr hc =
+    edged-inside e (z .width) (z .height) _ r c hr hc ∙ cond-true (inPicture z r c) (s r c) (pad r c) (inside-holds (z .width) (z .height) r c hr hc)
 
 pub luma-own : (e : Edge) (px : List ℕ) (z : Size) (y u v y′ u′ v′ : List ℕ) (a : Answer) → FromRgbaOutcome e px z y u v a (y′ ∷ u′ ∷ v′ ∷ []) → a .number ≡ 0
     → (r c : ℕ) → r < z .height → c < z .width → sample y′ (strideOf z) r c ≡ convertedOf px z r c .y
@@ -72,8 +78,7 @@ luma-own e px z y u v y′ u′ v′ a ends none r c hr hc =
     ap (λ (bs : List (List ℕ)). getD (first bs) (r * strideOf z + c) 0) (ends .buffers)
     ∙ ap (λ (n : ℕ). getD (lentAfter n y (planeOf z (withEdge e z (lumaPlane z px)) y)) (r * strideOf z + c) 0) number
     ∙ painted-at (strideOf z) (rowsOf z) whole (withEdge e z (lumaPlane z px)) y r c (omega arith) (omega arith) fits
-    ∙ edged-inside e (z .width) (z .height) (lumaPlane z px) r c hr hc
-    ∙ cond-true (inPicture z r c) _ _ (inside-holds (z .width) (z .height) r c hr hc)
+    ∙ sample-own e z (λ q k. convertedOf px z q k .y) freshLuma r c hr hc
   where
     first : List (List ℕ) → List ℕ
     first [] = []

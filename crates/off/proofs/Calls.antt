@@ -10,7 +10,6 @@ use mathlib.Core.List.{List, [], _∷_}
 use lib.IntN.{pos}
 use lib.ListN.{length, getD}
 use Rattle.lent.specs.declared.Answer.{Answer}
-use Rattle.lent.proofs.Bools.{cond-true}
 use Rattle.lent.proofs.Ends.{lent-done}
 use Rattle.layout.specs.declared.Chroma.{Chroma}
 use Rattle.layout.specs.declared.Chroma.the-variants.{CU, CV}
@@ -26,8 +25,7 @@ use Rattle.from_rgba.specs.Averaged.{averaged}
 use Rattle.from_rgba.specs.Edges.{filled}
 use Rattle.from_rgba.specs.Rows.{colourAt}
 use Rattle.from_rgba.specs.FromRgba.{convertedOf, inPicture, withEdge, fromNumberOf, fromBuffersOf, FromRgbaOutcome}
-use Rattle.from_rgba.proofs.Padding.{inside-holds}
-use Rattle.from_rgba.proofs.EdgeLaws.{edged-inside}
+use Rattle.from_rgba.proofs.BothEdges.{sample-own}
 use Rattle.from_rgba.proofs.FromRgbaOutcome.{from-0-exactly}
 use Rattle.to_rgba_rows.specs.Rules.{chromaAt, filteredAt}
 use Rattle.off.specs.Off.{below, above, appliedBelow, appliedAbove, Off, chromaOf, wholeOf, beforeOf, leftOf, Bounds}
@@ -110,11 +108,6 @@ pub colours-off : (e : Edge) (k : Chroma) → Bounds e k below above appliedBelo
 colours-off e k = record { off = left-off e k }
 
 -- the sample of a pixel of the picture, before the average, is U or V of its own colour, by either edge rule
-sample-own : (e : Edge) (z : Size) (s pad : ℕ → ℕ → ℕ) (r c : ℕ) → r < z .height → c < z .width
-    → withEdge e z (λ q k. cond (inPicture z q k) (s q k) (pad q k)) r c ≡ s r c
-sample-own e z s pad r c hr hc =
-    edged-inside e (z .width) (z .height) _ r c hr hc ∙ cond-true (inPicture z r c) (s r c) (pad r c) (inside-holds (z .width) (z .height) r c hr hc)
-
 pub before-own : (e : Edge) (k : Chroma) (z : Size) (px : List ℕ) (r c : ℕ) → r < z .height → c < z .width
     → beforeOf k e z px r c ≡ chromaOf k (convertedOf px z r c)
 before-own e CU z px = sample-own e z (λ r c. convertedOf px z r c .u) freshChroma
