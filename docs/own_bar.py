@@ -12,7 +12,7 @@ It needs a C compiler (cc) and makes the library first where that is not made (o
 """
 import os
 import sys
-from math import floor, log10
+from math import floor, isfinite, log10
 
 from readings import BARS, DRAWINGS, FIELDS, STEPS, measured
 from through import ROOT, stop
@@ -75,6 +75,8 @@ def main():
     words = sys.argv[1:]
     if words == ['--self-test']:
         return self_test()
+    if words in (['-h'], ['--help']):
+        return print(__doc__)
     if len(words) not in (1, 3) or words[0].startswith('--'):
         sys.exit(__doc__)
     try:
@@ -85,8 +87,10 @@ def main():
     except ValueError:
         stop(f'{" ".join(words)}: a text file, and two numbers, are asked for')
     bar, wrong = bar_in(text)
-    if wrong or lowest == highest:
-        stop(f'{words[0]}: {wrong}' if wrong else 'the lowest value is the highest too')
+    if wrong:
+        stop(f'{words[0]}: {wrong}')
+    if not isfinite(highest - lowest) or lowest == highest:
+        stop(f'{words[1]} to {words[2]}: two numbers are asked for that differ')
     return printed(words[0], bar, lowest, highest)
 
 

@@ -8,6 +8,7 @@ import tempfile
 
 ROOT = os.path.dirname(os.path.dirname(os.path.abspath(__file__)))
 SCRIPT = os.path.basename(sys.argv[0])
+ARCHIVE = os.path.join(ROOT, 'oracle', 'build', 'libhaythaw.a')
 
 
 def stop(words):
@@ -32,11 +33,13 @@ def run(words, **more):
 
 def through_library(name, given):
     """The lines that docs/NAME.c answers to the given ones. The library is made first where that is not made."""
+    if not os.path.exists(ARCHIVE):
+        print(f'{SCRIPT}: the library is not made yet; it is proved first, which takes some minutes', file=sys.stderr, flush=True)
     run([os.path.join(ROOT, 'oracle', 'library.sh')], stdout=subprocess.DEVNULL)
     with tempfile.TemporaryDirectory() as made:
         program = os.path.join(made, name)
         run(['cc', '-std=c99', '-O1', '-Wall', '-Wextra', '-Werror', '-I' + os.path.join(ROOT, 'bind', 'c'),
-             os.path.join(ROOT, 'docs', name + '.c'), os.path.join(ROOT, 'oracle', 'build', 'libhaythaw.a'), '-o', program])
+             os.path.join(ROOT, 'docs', name + '.c'), ARCHIVE, '-o', program])
         sent = ''.join(' '.join(map(str, line)) + '\n' for line in given)
         said = run([program], input=sent, stdout=subprocess.PIPE, text=True).stdout
     return [list(map(int, line.split())) for line in said.splitlines()]
