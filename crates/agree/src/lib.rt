@@ -1,21 +1,24 @@
-// The two layouts agree (demand 3): a picture is split as V1 onto one earlier picture and as V2 onto another, over one list.
+// The two layouts agree (demand 3): a picture is sent one way onto one earlier picture and another way onto another, over one list. The
+// demand's ways are V1 and V2, by either rule of its width; any two will do.
 //
 // Both then hold its luma at each pixel inside a rectangle and its chroma in each widened rectangle, and all other luma of their pixels
 // and all other chroma is as before (agree_law/specs/Agrees.antt). `both` finds the first number that a step of either walk would give before
 // it writes anything; a refusal changes no byte. Number and every lent byte are equations (agree_law/specs/Both.antt), and 0 comes with
 // the theorem of both.
-pub mod one; // one layout's calls
+pub mod one; // one way's calls
 
 ghost use mathlib.Core.Path.{_≡_};
 ghost use Rattle.split.specs.Split.{atEntry, atExit, splitNumberOf};
 ghost use Rattle.agree_law.specs.Through.{firstOf, earlierNumberOf};
 ghost use Rattle.agree_law.specs.Both.{BothOutcome};
-use layout::Layout;
+use layout::Way;
 use picture::Size;
 use split::PlaneLengths;
 
 // The first number that a step of both walks would give: the second earlier picture's is found before the first is written.
 fn both_number(
+    one: Way,
+    other: Way,
     size: Size,
     from: PlaneLengths,
     main: PlaneLengths,
@@ -24,19 +27,21 @@ fn both_number(
     second: PlaneLengths,
     nr: usize,
 ) -> u32
-    ensures { λ r. ⌜ r ≡ firstOf (firstOf (splitNumberOf size from main auxiliary) (earlierNumberOf size first nr))
-        (firstOf (splitNumberOf size from main auxiliary) (earlierNumberOf size second nr)) ⌝ }
+    ensures { λ r. ⌜ r ≡ firstOf (firstOf (splitNumberOf one size from main auxiliary) (earlierNumberOf size first nr))
+        (firstOf (splitNumberOf other size from main auxiliary) (earlierNumberOf size second nr)) ⌝ }
 {
-    let number = crate::one::through_number(size, from, main, auxiliary, first, nr);
+    let number = crate::one::through_number(one, size, from, main, auxiliary, first, nr);
     if number != 0 {
         return number;
     }
-    crate::one::through_number(size, from, main, auxiliary, second, nr)
+    crate::one::through_number(other, size, from, main, auxiliary, second, nr)
 }
 
-// Split as V1 onto the first earlier picture, then as V2 onto the second, over one list. The views' six buffers are the caller's, and are
-// used for both.
+// Sent one way onto the first earlier picture, then the other way onto the second, over one list. The views' six buffers are the caller's,
+// and are used for both.
 pub fn both(
+    one: Way,
+    other: Way,
     size: Size,
     y: &[u8],
     u: &[u8],
@@ -55,7 +60,7 @@ pub fn both(
     second_u: &mut [u8],
     second_v: &mut [u8],
 ) -> lent::Answer
-    ensures { λ r. ⌜ BothOutcome size (now (rects .entry)) (atEntry y u v)
+    ensures { λ r. ⌜ BothOutcome one other size (now (rects .entry)) (atEntry y u v)
         (atEntry «main_y» «main_u» «main_v») (atEntry «auxiliary_y» «auxiliary_u» «auxiliary_v»)
         (atEntry «first_y» «first_u» «first_v») (atEntry «second_y» «second_u» «second_v») r
         (atExit «main_y» «main_u» «main_v») (atExit «auxiliary_y» «auxiliary_u» «auxiliary_v»)
@@ -86,12 +91,22 @@ pub fn both(
         u: second_u.len(),
         v: second_v.len(),
     };
-    let number = both_number(size, from, main, auxiliary, first, second, rects.len());
+    let number = both_number(
+        one,
+        other,
+        size,
+        from,
+        main,
+        auxiliary,
+        first,
+        second,
+        rects.len(),
+    );
     if number != 0 {
         return lent::Answer { number, count: 0 };
     }
     crate::one::through(
-        Layout::V1,
+        one,
         size,
         y,
         u,
@@ -108,7 +123,7 @@ pub fn both(
         first_v,
     );
     crate::one::through(
-        Layout::V2,
+        other,
         size,
         y,
         u,

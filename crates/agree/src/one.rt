@@ -1,6 +1,6 @@
-// One layout's walk: a picture is split, and its views go into an earlier picture over a list of rectangles, by the calls themselves.
+// One walk: a picture is split in the way that it is sent, and its views go into an earlier picture over a list of rectangles, by the calls themselves.
 //
-// Whatever the layout, the earlier picture then holds the picture's luma at each pixel inside a rectangle and its chroma in each widened
+// Whatever the way, the earlier picture then holds the picture's luma at each pixel inside a rectangle and its chroma in each widened
 // rectangle, and all other luma of its pixels and all other chroma is as before (agree_law/specs/Agrees.antt). `through` finds the first
 // number that a step would give before it writes anything; a refusal changes no byte. Number and every lent byte are equations
 // (agree_law/specs/Through.antt), and 0 comes with the theorem.
@@ -8,7 +8,7 @@ ghost use mathlib.Core.Path.{_≡_};
 ghost use Rattle.split.specs.Split.{atEntry, atExit, splitNumberOf};
 ghost use Rattle.agree_law.specs.Through.{viewIn, firstOf, earlierNumberOf, ThroughOutcome};
 use apply_auxiliary::apply_auxiliary_view;
-use layout::Layout;
+use layout::Way;
 use picture::Size;
 use split::PlaneLengths;
 use view::View;
@@ -28,6 +28,7 @@ fn earlier_number(size: Size, earlier: PlaneLengths, nr: usize) -> u32
 
 // The first number that a step would give: the split, or an apply call.
 pub fn through_number(
+    way: Way,
     size: Size,
     from: PlaneLengths,
     main: PlaneLengths,
@@ -35,9 +36,9 @@ pub fn through_number(
     earlier: PlaneLengths,
     nr: usize,
 ) -> u32
-    ensures { λ r. ⌜ r ≡ firstOf (splitNumberOf size from main auxiliary) (earlierNumberOf size earlier nr) ⌝ }
+    ensures { λ r. ⌜ r ≡ firstOf (splitNumberOf way size from main auxiliary) (earlierNumberOf size earlier nr) ⌝ }
 {
-    let number = split::split_number(size, from, main, auxiliary);
+    let number = split::split_number(way, size, from, main, auxiliary);
     if number != 0 {
         return number;
     }
@@ -56,10 +57,10 @@ fn view_of(views: split::Views) -> View
     }
 }
 
-// The picture y, u, v is split in the layout, and the main view and then the auxiliary view go into the earlier picture qy, qu, qv over
+// The picture y, u, v is split this way, and the main view and then the auxiliary view go into the earlier picture qy, qu, qv over
 // the list. The views' six buffers are the caller's.
 pub fn through(
-    layout: Layout,
+    way: Way,
     size: Size,
     y: &[u8],
     u: &[u8],
@@ -75,7 +76,7 @@ pub fn through(
     qu: &mut [u8],
     qv: &mut [u8],
 ) -> lent::Answer
-    ensures { λ r. ⌜ ThroughOutcome layout size (now (rects .entry)) (atEntry y u v)
+    ensures { λ r. ⌜ ThroughOutcome way size (now (rects .entry)) (atEntry y u v)
         (atEntry «main_y» «main_u» «main_v») (atEntry «auxiliary_y» «auxiliary_u» «auxiliary_v») (atEntry qy qu qv) r
         (atExit «main_y» «main_u» «main_v») (atExit «auxiliary_y» «auxiliary_u» «auxiliary_v») (atExit qy qu qv) ⌝ }
 {
@@ -99,12 +100,12 @@ pub fn through(
         u: qu.len(),
         v: qv.len(),
     };
-    let number = through_number(size, from, main, auxiliary, earlier, rects.len());
+    let number = through_number(way, size, from, main, auxiliary, earlier, rects.len());
     if number != 0 {
         return lent::Answer { number, count: 0 };
     }
     let views = split::split(
-        layout,
+        way,
         size,
         y,
         u,
@@ -117,6 +118,7 @@ pub fn through(
         auxiliary_v,
     );
     let w = view_of(views);
+    let layout = layout::layout_of(way, size.width, w.width);
     apply_main::apply_main_view(size, qy, qu, qv, rects, w, main_y, main_u, main_v);
     apply_auxiliary_view(
         layout,

@@ -89,10 +89,7 @@ module _ (m : Maps) (w : View) (z : Size) (rects : List ℕ) (p p′ q mid x : P
     chroma-elsewhere = λ k r c hr hc e. s .auxiliary-chroma k r c hr hc ∙ rw e (s .main-chroma k r c hr hc ∙ rw e);
   }
 
--- ---- the instances: the steps are those of p itself, or of p as if its planes went on past the stride
-
-pub itself : (z : Size) (p : Picture) → Extends z p p
-itself z p = record { luma = λ r c hr hc. refl; chroma = λ k r c hr hc. refl }
+-- ---- the instances: the steps are those of p as if its planes went on past the stride
 
 module _ (w : View) (z : Size) (rects : List ℕ) (p p′ q mid x : Picture) (main auxiliary : ViewSamples)
     (wide : strideOf z ≤ w .width) (high : rowsOf z ≤ w .height) (more : Extends z p p′) where

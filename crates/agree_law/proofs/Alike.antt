@@ -1,8 +1,9 @@
--- One earlier picture, lent to both layouts, is left the same to the last byte, padding and what lies past the planes included: each walk
--- leaves the picture laid over the earlier one, whatever the layout and whatever the views' buffers held. Luma comes from the main view
+-- One earlier picture, lent to both walks, is left the same to the last byte, padding and what lies past the planes included: each walk
+-- leaves the picture laid over the earlier one, whatever the way and whatever the views' buffers held. Luma comes from the main view
 -- alone, which holds the picture's own; demand 3 says each sample of the padded chroma planes; no call changes a byte past them.
 -- Assumes nothing.
 use Prim.Native.Nat.{ℕ, _<_}
+use native.Mathlib.Omega.{arith}
 use mathlib.Core.Path.{_≡_, refl, sym, ap, _∙_}
 use mathlib.Core.Bool.{Bool, true, false, cond}
 use mathlib.Core.List.{List, _++_}
@@ -16,15 +17,18 @@ use Rattle.picture.specs.declared.Size.{Size}
 use Rattle.picture.specs.Sizes.{strideOf, rowsOf}
 use Rattle.layout.specs.declared.Chroma.{Chroma}
 use Rattle.layout.specs.declared.Chroma.the-variants.{CU, CV}
-use Rattle.layout.specs.declared.Layout.{Layout}
-use Rattle.layout.specs.declared.Layout.the-variants.{V1, V2}
+use Rattle.layout.specs.declared.Way.{Way}
+use Rattle.layout.specs.declared.Way.the-variants.{AsV1}
 use Rattle.layout.specs.Maps.{PY}
 use Rattle.split.specs.Split.{Planes, planes, mainSample}
+use Rattle.split.proofs.Calls.{wide-enough}
+use Rattle.split.proofs.Before.{seen-inside}
 use Rattle.agree_law.specs.Agrees.{Picture, widened, Agrees}
-use Rattle.agree_law.specs.Through.{buffersIn, threeOf, mainViewOf, auxiliaryViewOf, throughOf, laidOver, throughNumberOf, Lent}
+use Rattle.agree_law.specs.Through.{buffersIn, threeOf, viewOf, mainViewOf, auxiliaryViewOf, throughOf, laidOver, throughNumberOf, Lent}
 use Rattle.agree_law.specs.Both.{bothNumberOf, bothBuffersOf, BothOutcome}
 use Rattle.agree_law.proofs.Number.{first-zero, through-0-exactly}
 use Rattle.agree_law.proofs.Calls.{written, lent-agrees}
+use Rattle.agree_law.proofs.Inside.{luma-wider}
 
 -- a plane that two calls painted is fixed by what its samples are afterwards
 painted-twice : (w h : ℕ) (t₁ t₂ t : ℕ → ℕ → Bool) (s₁ s₂ s : ℕ → ℕ → ℕ) (xs : List ℕ)
@@ -44,10 +48,12 @@ module _ (z : Size) (rects : List ℕ) (p q x : Picture) (a : Agrees z rects p q
       go true e = a .chroma-inside k r c e ∙ sym (cond-true (widened z rects r c) _ _ e)
       go false e = a .chroma-elsewhere k r c hr hc e ∙ sym (cond-false (widened z rects r c) _ _ e)
 
-module _ (t : Layout) (z : Size) (rects : List ℕ) (p m a q : Planes) (f : Lent z rects p m a q) where
+module _ (t : Way) (z : Size) (rects : List ℕ) (p m a q : Planes) (f : Lent t z rects p m a q) where
   luma-laid : throughOf t z rects p m a q .y ≡ laidOver z rects p q .y
   unfolding throughOf
-  luma-laid = painted-ext _ _ _ _ _ _ (q .y) (λ r c hr hc. refl) (λ r c hr hc e. written z (mainSample (strideOf z) p) m (f .main) PY r c hr hc)
+  luma-laid = painted-ext _ _ _ _ _ _ (q .y)
+      (λ r c hr hc. luma-wider z (viewOf t z) (viewOf AsV1 z) rects r c (wide-enough t z .enough) (omega arith) (omega arith) (omega arith))
+      (λ r c hr hc e. written t z (mainSample (strideOf z) p) m (f .main) PY r c hr (omega (arith, hc, wide-enough t z .enough)) ∙ sym (seen-inside 0 (p .y) (strideOf z) r c hc))
 
   u-laid : throughOf t z rects p m a q .u ≡ laidOver z rects p q .u
   unfolding throughOf
@@ -58,34 +64,34 @@ module _ (t : Layout) (z : Size) (rects : List ℕ) (p m a q : Planes) (f : Lent
   v-laid = painted-twice _ _ _ _ _ _ _ _ (q .v) (agreed-chroma z rects _ _ _ (lent-agrees t z rects p m a q f) CV)
 
 -- a walk that answers 0 leaves the picture laid over the earlier one
-pub through-laid : (t : Layout) (z : Size) (rects : List ℕ) (p m a q : Planes) → throughNumberOf t z rects p m a q ≡ 0 → throughOf t z rects p m a q ≡ laidOver z rects p q
+pub through-laid : (t : Way) (z : Size) (rects : List ℕ) (p m a q : Planes) → throughNumberOf t z rects p m a q ≡ 0 → throughOf t z rects p m a q ≡ laidOver z rects p q
 through-laid t z rects p m a q none =
-    let f = through-0-exactly z rects p m a q t .0 none in
+    let f = through-0-exactly t z rects p m a q .0 none in
     λ i. planes (luma-laid t z rects p m a q f i) (u-laid t z rects p m a q f i) (v-laid t z rects p m a q f i)
 
-module _ (z : Size) (rects : List ℕ) (p m a q q′ : Planes) (r : Answer) (m′ a′ x x′ : Planes) (both : BothOutcome z rects p m a q q′ r m′ a′ x x′) (done : r .number ≡ 0) where
-  none : bothNumberOf z rects p m a q q′ ≡ 0
+module _ (t t′ : Way) (z : Size) (rects : List ℕ) (p m a q q′ : Planes) (r : Answer) (m′ a′ x x′ : Planes) (both : BothOutcome t t′ z rects p m a q q′ r m′ a′ x x′) (done : r .number ≡ 0) where
+  none : bothNumberOf t t′ z rects p m a q q′ ≡ 0
   none = sym (ap (λ (n : Answer). n .number) (both .ends .answer)) ∙ done
 
-  zeros : (throughNumberOf V1 z rects p m a q ≡ 0) × (throughNumberOf V2 z rects p (mainViewOf z p m) (auxiliaryViewOf V1 z p a) q′ ≡ 0)
+  zeros : (throughNumberOf t z rects p m a q ≡ 0) × (throughNumberOf t′ z rects p (mainViewOf t z p m) (auxiliaryViewOf t z p a) q′ ≡ 0)
   unfolding bothNumberOf
-  zeros = first-zero (throughNumberOf V1 z rects p m a q) _ none
+  zeros = first-zero (throughNumberOf t z rects p m a q) _ none
 
-  left : (buffersIn m′ ++ (buffersIn a′ ++ (buffersIn x ++ buffersIn x′))) ≡ bothBuffersOf 0 z rects p m a q q′
-  left = both .ends .buffers ∙ ap (λ (n : ℕ). bothBuffersOf n z rects p m a q q′) none
+  left : (buffersIn m′ ++ (buffersIn a′ ++ (buffersIn x ++ buffersIn x′))) ≡ bothBuffersOf 0 t t′ z rects p m a q q′
+  left = both .ends .buffers ∙ ap (λ (n : ℕ). bothBuffersOf n t t′ z rects p m a q q′) none
 
   -- two walks that answer 0 leave the picture laid over each of the earlier ones
   pub both-laid : (x ≡ laidOver z rects p q) × (x′ ≡ laidOver z rects p q′)
   unfolding bothBuffersOf
   both-laid = (
-    ap (λ (l : List (List ℕ)). threeOf (drop 6 l)) left ∙ through-laid V1 z rects p m a q (zeros .0),
-    ap (λ (l : List (List ℕ)). threeOf (drop 9 l)) left ∙ through-laid V2 z rects p (mainViewOf z p m) (auxiliaryViewOf V1 z p a) q′ (zeros .1),
+    ap (λ (l : List (List ℕ)). threeOf (drop 6 l)) left ∙ through-laid t z rects p m a q (zeros .0),
+    ap (λ (l : List (List ℕ)). threeOf (drop 9 l)) left ∙ through-laid t′ z rects p (mainViewOf t z p m) (auxiliaryViewOf t z p a) q′ (zeros .1),
   )
 
--- one earlier picture, lent twice: the two layouts leave the same three buffers, to the last byte
-pub both-alike : (z : Size) (rects : List ℕ) (p m a q : Planes) (r : Answer) (m′ a′ x x′ : Planes) → BothOutcome z rects p m a q q r m′ a′ x x′ → r .number ≡ 0
+-- one earlier picture, lent twice: the two ways leave the same three buffers, to the last byte
+pub both-alike : (t t′ : Way) (z : Size) (rects : List ℕ) (p m a q : Planes) (r : Answer) (m′ a′ x x′ : Planes) → BothOutcome t t′ z rects p m a q q r m′ a′ x x′ → r .number ≡ 0
     → (x .y ≡ x′ .y) × (x .u ≡ x′ .u) × (x .v ≡ x′ .v)
-both-alike z rects p m a q r m′ a′ x x′ both done =
-    let laid = both-laid z rects p m a q q r m′ a′ x x′ both done in
+both-alike t t′ z rects p m a q r m′ a′ x x′ both done =
+    let laid = both-laid t t′ z rects p m a q q r m′ a′ x x′ both done in
     let same : x ≡ x′ = laid .0 ∙ sym (laid .1) in
     (λ i. same i .y, λ i. same i .u, λ i. same i .v)

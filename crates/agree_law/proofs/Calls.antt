@@ -3,7 +3,7 @@
 -- Assumes nothing.
 use Prim.Native.Nat.{ℕ, _*_, _/_, _<_, _≤_}
 use native.Mathlib.Omega.{arith}
-use mathlib.Core.Path.{_≡_, refl, ap, _∙_}
+use mathlib.Core.Path.{_≡_, refl, sym, ap, _∙_}
 use mathlib.Core.Bool.{Bool, cond, _&&_, and-assoc}
 use mathlib.Core.List.{List}
 use lib.Dec.{ltb}
@@ -13,11 +13,16 @@ use Rattle.lent.specs.Samples.{sample}
 use Rattle.lent.proofs.Painted.{painted-at, length-painted}
 use Rattle.picture.specs.declared.Size.{Size}
 use Rattle.picture.specs.Sizes.{strideOf, rowsOf}
+use Rattle.view.specs.declared.View.{View}
 use Rattle.layout.specs.declared.Chroma.{Chroma}
 use Rattle.layout.specs.declared.Chroma.the-variants.{CU, CV}
 use Rattle.layout.specs.declared.Layout.{Layout}
-use Rattle.layout.specs.declared.Layout.the-variants.{V1, V2}
-use Rattle.layout.specs.Maps.{Part, PY, PU, PV, place, partOf, maps}
+use Rattle.layout.specs.declared.Layout.the-variants.{V2}
+use Rattle.layout.specs.declared.Way.{Way}
+use Rattle.layout.specs.declared.Way.the-variants.{AsV1, AsV2}
+use Rattle.layout.specs.declared.WidthRule.{WidthRule}
+use Rattle.layout.specs.declared.WidthRule.the-variants.{To16, To32}
+use Rattle.layout.specs.Maps.{Part, PY, PU, PV, Maps, place, partOf, maps}
 use Rattle.layout.specs.Exists.{side, gives, fed}
 use Rattle.layout.proofs.Fed.{maps-fed}
 use Rattle.rects.specs.Rects.{taken, area}
@@ -25,12 +30,14 @@ use Rattle.apply_main.specs.Main.{mainLuma, mainChroma, halved, chromaAfter}
 use Rattle.apply_auxiliary_rows.specs.Rows.{partSample, auxiliarySource}
 use Rattle.apply_auxiliary.specs.Auxiliary.{auxiliaryIn, auxiliaryRule, auxiliaryAfter}
 use Rattle.split_views.specs.Fits.{Room}
-use Rattle.split.specs.Split.{Planes, mainSample, auxiliarySample, viewAfter}
+use Rattle.split.specs.Split.{Planes, splitLayoutOf, splitWideOf, pickChroma, mainSample, auxiliarySample, viewAfter}
+use Rattle.split.proofs.Calls.{wide-enough}
+use Rattle.split.proofs.Before.{seen-inside}
 use Rattle.agree_law.specs.Agrees.{pictureOf, widened, Agrees}
-use Rattle.agree_law.specs.Steps.{ViewSamples, atSpot, mainView, auxiliaryView, Steps}
-use Rattle.agree_law.specs.Through.{threeOf, viewOf, mainViewOf, auxiliaryViewOf, withMain, withAuxiliary, throughOf, throughNumberOf, Lent}
+use Rattle.agree_law.specs.Steps.{ViewSamples, seenPicture, atSpot, mainView, auxiliaryView, Extends, Steps}
+use Rattle.agree_law.specs.Through.{threeOf, viewOf, appliedLayoutOf, mainViewOf, auxiliaryViewOf, withMain, withAuxiliary, throughOf, throughNumberOf, Lent}
 use Rattle.agree_law.proofs.Inside.{taken-beside}
-use Rattle.agree_law.proofs.Agree.{agrees, itself}
+use Rattle.agree_law.proofs.Agree.{agrees}
 use Rattle.agree_law.proofs.Number.{through-0-exactly}
 
 -- a sample of a plane that was painted
@@ -40,104 +47,122 @@ unfolding sample
 sample-painted w h t s xs r c hr hc fits = painted-at w h t s xs r c hr hc fits
 
 -- a view that a split has written holds what it was to hold
-pub written : (z : Size) (s : ViewSamples) (o : Planes) → Room (length (o .y)) (length (o .u)) (length (o .v)) (strideOf z) (rowsOf z) → (t : Part) (r c : ℕ) → r < side t (rowsOf z) → c < side t (strideOf z)
-    → let v = threeOf (viewAfter 0 z s o) in
-    partSample (viewOf z) (v .y) (v .u) (v .v) t r c ≡ s t r c
-written z s o long PY r c hr hc = sample-painted (strideOf z) (rowsOf z) whole (s PY) (o .y) r c hr hc (long .y-room)
-written z s o long PU r c hr hc = sample-painted (strideOf z / 2) (rowsOf z / 2) whole (s PU) (o .u) r c (omega arith) (omega arith) (long .u-room)
-written z s o long PV r c hr hc = sample-painted (strideOf z / 2) (rowsOf z / 2) whole (s PV) (o .v) r c (omega arith) (omega arith) (long .v-room)
+pub written : (t : Way) (z : Size) (s : ViewSamples) (o : Planes) → Room (length (o .y)) (length (o .u)) (length (o .v)) (splitWideOf t z) (rowsOf z)
+    → (q : Part) (r c : ℕ) → r < side q (rowsOf z) → c < side q (splitWideOf t z)
+    → let v = threeOf (viewAfter 0 (splitWideOf t z) z s o) in
+    partSample (viewOf t z) (v .y) (v .u) (v .v) q r c ≡ s q r c
+written t z s o long PY r c hr hc = sample-painted (splitWideOf t z) (rowsOf z) whole (s PY) (o .y) r c hr hc (long .y-room)
+written t z s o long PU r c hr hc = sample-painted (splitWideOf t z / 2) (rowsOf z / 2) whole (s PU) (o .u) r c (omega arith) (omega (arith, wide-enough t z .fours)) (long .u-room)
+written t z s o long PV r c hr hc = sample-painted (splitWideOf t z / 2) (rowsOf z / 2) whole (s PV) (o .v) r c (omega arith) (omega (arith, wide-enough t z .fours)) (long .v-room)
 
-main-written : (z : Size) (p : Planes) (t : Part) (r c : ℕ) → mainSample (strideOf z) p t r c ≡ mainView (pictureOf z p) t r c
+-- what is split is the picture as if its planes went on past the stride
+main-written : (z : Size) (p : Planes) (q : Part) (r c : ℕ) → mainSample (strideOf z) p q r c ≡ mainView (seenPicture z p) q r c
 main-written z p PY r c = refl
 main-written z p PU r c = refl
 main-written z p PV r c = refl
 
-auxiliary-written : (t : Layout) (z : Size) (p : Planes) (q : Part) (r c : ℕ) → auxiliarySample t (strideOf z) (p .u) (p .v) q r c ≡ auxiliaryView (maps t (strideOf z)) (pictureOf z p) q r c
+auxiliary-written : (t : Layout) (z : Size) (p : Planes) (q : Part) (r c : ℕ) → auxiliarySample t (strideOf z) (p .u) (p .v) q r c ≡ auxiliaryView (maps t) (seenPicture z p) q r c
 unfolding auxiliarySample
 auxiliary-written t z p q r c = refl
 
+goes-on : (z : Size) (p : Planes) → Extends z (pictureOf z p) (seenPicture z p)
+goes-on z p = record {
+  luma = λ r c hr hc. sym (seen-inside 0 (p .y) (strideOf z) r c hc);
+  chroma = λ k r c hr hc. sym (seen-inside 128 (pickChroma k (p .u) (p .v)) (strideOf z) r c hc);
+}
+
+-- the W that an apply call finds for a split's view is the split's
+pub applied-layout : (t : Way) (z : Size) → appliedLayoutOf t z ≡ splitLayoutOf t z
+applied-layout AsV1 z = refl
+applied-layout (AsV2 To16) z = ap V2 (omega arith)
+applied-layout (AsV2 To32) z = refl
+
 -- what the chroma rules take over a list, with what does not look at the rectangle beside it
-main-taken : (z : Size) (rects : List ℕ) (r c : ℕ) → taken (mainChroma z (viewOf z)) rects r c ≡ (widened z rects r c && (ltb r (rowsOf z) && ltb c (strideOf z)))
+main-taken : (t : Way) (z : Size) (rects : List ℕ) (r c : ℕ) → taken (mainChroma z (viewOf t z)) rects r c ≡ (widened z rects r c && (ltb r (rowsOf z) && ltb c (splitWideOf t z)))
 unfolding mainChroma
-main-taken z rects r c =
-    taken-beside (mainChroma z (viewOf z)) (area z) (ltb r (rowsOf z) && ltb c (strideOf z)) rects r c
-    (λ left top right bottom. and-assoc (area z left top right bottom r c) (ltb r (rowsOf z)) (ltb c (strideOf z)))
+main-taken t z rects r c =
+    taken-beside (mainChroma z (viewOf t z)) (area z) (ltb r (rowsOf z) && ltb c (splitWideOf t z)) rects r c
+    (λ left top right bottom. and-assoc (area z left top right bottom r c) (ltb r (rowsOf z)) (ltb c (splitWideOf t z)))
 
-auxiliary-taken : (t : Layout) (z : Size) (rects : List ℕ) (r c : ℕ) → taken (auxiliaryRule t z (viewOf z)) rects r c ≡ (widened z rects r c && gives (maps t (strideOf z)) (strideOf z) (rowsOf z) r c)
+auxiliary-taken : (l : Layout) (w : View) (z : Size) (rects : List ℕ) (r c : ℕ) → taken (auxiliaryRule l z w) rects r c ≡ (widened z rects r c && gives (maps l) (w .width) (w .height) r c)
 unfolding auxiliaryIn fed
-auxiliary-taken t z rects r c = taken-beside (auxiliaryRule t z (viewOf z)) (area z) (gives (maps t (strideOf z)) (strideOf z) (rowsOf z) r c) rects r c (λ left top right bottom. refl)
+auxiliary-taken l w z rects r c = taken-beside (auxiliaryRule l z w) (area z) (gives (maps l) (w .width) (w .height) r c) rects r c (λ left top right bottom. refl)
 
-module _ (t : Layout) (z : Size) (rects : List ℕ) (p m a q : Planes) (f : Lent z rects p m a q) where
+module _ (t : Way) (z : Size) (rects : List ℕ) (p m a q : Planes) (f : Lent t z rects p m a q) where
   abbrev v : Planes
-  v = mainViewOf z p m
+  v = mainViewOf t z p m
 
   abbrev x : Planes
   x = auxiliaryViewOf t z p a
 
   abbrev mid : Planes
-  mid = withMain z rects v q
+  mid = withMain t z rects v q
 
   abbrev after : Planes
   after = withAuxiliary t z rects x mid
 
+  abbrev held : Maps
+  held = maps (splitLayoutOf t z)
+
   abbrev main : ViewSamples
-  main = partSample (viewOf z) (v .y) (v .u) (v .v)
+  main = partSample (viewOf t z) (v .y) (v .u) (v .v)
 
   abbrev auxiliary : ViewSamples
-  auxiliary = partSample (viewOf z) (x .y) (x .u) (x .v)
+  auxiliary = partSample (viewOf t z) (x .y) (x .u) (x .v)
 
   -- a chroma plane, with the main view applied; then with the auxiliary view applied
   main-plane : (k : Chroma) (samples plane : List ℕ) (r c : ℕ) → r < rowsOf z → c < strideOf z → rowsOf z * strideOf z ≤ length plane
-      → sample (chromaAfter z (viewOf z) rects samples plane) (strideOf z) r c
-      ≡ cond (widened z rects r c && (ltb r (rowsOf z) && ltb c (strideOf z))) (sample samples (strideOf z / 2) (r / 2) (c / 2)) (sample plane (strideOf z) r c)
+      → sample (chromaAfter z (viewOf t z) rects samples plane) (strideOf z) r c
+      ≡ cond (widened z rects r c && (ltb r (rowsOf z) && ltb c (splitWideOf t z))) (sample samples (splitWideOf t z / 2) (r / 2) (c / 2)) (sample plane (strideOf z) r c)
   unfolding halved
   main-plane k samples plane r c hr hc fits =
-      sample-painted (strideOf z) (rowsOf z) (taken (mainChroma z (viewOf z)) rects) (halved samples (strideOf z / 2)) plane r c hr hc fits
-      ∙ ap (λ (b : Bool). cond b (sample samples (strideOf z / 2) (r / 2) (c / 2)) (sample plane (strideOf z) r c)) (main-taken z rects r c)
+      sample-painted (strideOf z) (rowsOf z) (taken (mainChroma z (viewOf t z)) rects) (halved samples (splitWideOf t z / 2)) plane r c hr hc fits
+      ∙ ap (λ (b : Bool). cond b (sample samples (splitWideOf t z / 2) (r / 2) (c / 2)) (sample plane (strideOf z) r c)) (main-taken t z rects r c)
 
   auxiliary-plane : (k : Chroma) (plane : List ℕ) (r c : ℕ) → r < rowsOf z → c < strideOf z → rowsOf z * strideOf z ≤ length plane
-      → sample (auxiliaryAfter t k z (viewOf z) rects (x .y) (x .u) (x .v) plane) (strideOf z) r c
-      ≡ cond (widened z rects r c && gives (maps t (strideOf z)) (strideOf z) (rowsOf z) r c) (atSpot auxiliary (maps t (strideOf z) .spot (place k r c))) (sample plane (strideOf z) r c)
+      → sample (auxiliaryAfter (appliedLayoutOf t z) k z (viewOf t z) rects (x .y) (x .u) (x .v) plane) (strideOf z) r c
+      ≡ cond (widened z rects r c && gives held (splitWideOf t z) (rowsOf z) r c) (atSpot auxiliary (held .spot (place k r c))) (sample plane (strideOf z) r c)
   unfolding auxiliarySource
   auxiliary-plane k plane r c hr hc fits =
-      sample-painted (strideOf z) (rowsOf z) (taken (auxiliaryRule t z (viewOf z)) rects) (auxiliarySource t k (viewOf z) (x .y) (x .u) (x .v)) plane r c hr hc fits
-      ∙ ap (λ (b : Bool). cond b (atSpot auxiliary (maps t (strideOf z) .spot (place k r c))) (sample plane (strideOf z) r c)) (auxiliary-taken t z rects r c)
+      ap (λ (l : Layout). sample (auxiliaryAfter l k z (viewOf t z) rects (x .y) (x .u) (x .v) plane) (strideOf z) r c) (applied-layout t z)
+      ∙ sample-painted (strideOf z) (rowsOf z) (taken (auxiliaryRule (splitLayoutOf t z) z (viewOf t z)) rects) (auxiliarySource (splitLayoutOf t z) k (viewOf t z) (x .y) (x .u) (x .v)) plane r c hr hc fits
+      ∙ ap (λ (b : Bool). cond b (atSpot auxiliary (held .spot (place k r c))) (sample plane (strideOf z) r c)) (auxiliary-taken (splitLayoutOf t z) (viewOf t z) z rects r c)
 
   main-chroma : (k : Chroma) (r c : ℕ) → r < rowsOf z → c < strideOf z
-      → pictureOf z mid .chroma k r c ≡ cond (widened z rects r c && (ltb r (rowsOf z) && ltb c (strideOf z))) (main (partOf k) (r / 2) (c / 2)) (pictureOf z q .chroma k r c)
+      → pictureOf z mid .chroma k r c ≡ cond (widened z rects r c && (ltb r (rowsOf z) && ltb c (splitWideOf t z))) (main (partOf k) (r / 2) (c / 2)) (pictureOf z q .chroma k r c)
   main-chroma CU r c hr hc = main-plane CU (v .u) (q .u) r c hr hc (f .earlier .u-fits)
   main-chroma CV r c hr hc = main-plane CV (v .v) (q .v) r c hr hc (f .earlier .v-fits)
 
   auxiliary-chroma : (k : Chroma) (r c : ℕ) → r < rowsOf z → c < strideOf z
       → pictureOf z after .chroma k r c
-      ≡ cond (widened z rects r c && gives (maps t (strideOf z)) (strideOf z) (rowsOf z) r c) (atSpot auxiliary (maps t (strideOf z) .spot (place k r c))) (pictureOf z mid .chroma k r c)
+      ≡ cond (widened z rects r c && gives held (splitWideOf t z) (rowsOf z) r c) (atSpot auxiliary (held .spot (place k r c))) (pictureOf z mid .chroma k r c)
   auxiliary-chroma CU r c hr hc = auxiliary-plane CU (mid .u) r c hr hc (rw length-painted (f .earlier .u-fits))
   auxiliary-chroma CV r c hr hc = auxiliary-plane CV (mid .v) r c hr hc (rw length-painted (f .earlier .v-fits))
 
-  steps : Steps (maps t (strideOf z)) (viewOf z) z rects (pictureOf z p) (pictureOf z q) (pictureOf z mid) (pictureOf z after) main auxiliary
+  steps : Steps held (viewOf t z) z rects (seenPicture z p) (pictureOf z q) (pictureOf z mid) (pictureOf z after) main auxiliary
   steps = record {
-    main-is = λ s r c hr hc. written z (mainSample (strideOf z) p) m (f .main) s r c hr hc ∙ main-written z p s r c;
-    auxiliary-is = λ s r c hr hc. written z (auxiliarySample t (strideOf z) (p .u) (p .v)) a (f .auxiliary) s r c hr hc ∙ auxiliary-written t z p s r c;
-    main-luma = λ r c hr hc. sample-painted (strideOf z) (rowsOf z) (taken (mainLuma z (viewOf z)) rects) (sample (v .y) (strideOf z)) (q .y) r c hr hc (f .earlier .y-fits);
+    main-is = λ s r c hr hc. written t z (mainSample (strideOf z) p) m (f .main) s r c hr hc ∙ main-written z p s r c;
+    auxiliary-is = λ s r c hr hc. written t z (auxiliarySample (splitLayoutOf t z) (strideOf z) (p .u) (p .v)) a (f .auxiliary) s r c hr hc ∙ auxiliary-written (splitLayoutOf t z) z p s r c;
+    main-luma = λ r c hr hc. sample-painted (strideOf z) (rowsOf z) (taken (mainLuma z (viewOf t z)) rects) (sample (v .y) (splitWideOf t z)) (q .y) r c hr hc (f .earlier .y-fits);
     main-chroma = main-chroma;
     auxiliary-luma = λ r c hr hc. refl;
     auxiliary-chroma = auxiliary-chroma;
   }
 
-  -- demand 3, of the calls' definitions, in either layout
+  -- demand 3, of the calls' definitions, whatever the way: one proof over W
   pub lent-agrees : Agrees z rects (pictureOf z p) (pictureOf z q) (pictureOf z (throughOf t z rects p m a q))
   unfolding throughOf
   lent-agrees =
-      agrees (maps t (strideOf z)) (viewOf z) z rects (pictureOf z p) (pictureOf z p) (pictureOf z q) (pictureOf z mid) (pictureOf z after) main auxiliary
-      (maps-fed t (strideOf z) (rowsOf z) (omega arith) (omega arith)) (omega arith) (omega arith) (itself z (pictureOf z p)) steps
+      agrees held (viewOf t z) z rects (pictureOf z p) (seenPicture z p) (pictureOf z q) (pictureOf z mid) (pictureOf z after) main auxiliary
+      (maps-fed t (z .width) (strideOf z) (rowsOf z) (omega arith) (omega arith)) (wide-enough t z .enough) (omega arith) (goes-on z p) steps
 
-pub through-agrees : (t : Layout) (z : Size) (rects : List ℕ) (p m a q : Planes) → throughNumberOf t z rects p m a q ≡ 0
+pub through-agrees : (t : Way) (z : Size) (rects : List ℕ) (p m a q : Planes) → throughNumberOf t z rects p m a q ≡ 0
     → Agrees z rects (pictureOf z p) (pictureOf z q) (pictureOf z (throughOf t z rects p m a q))
-through-agrees t z rects p m a q none = lent-agrees t z rects p m a q (through-0-exactly z rects p m a q t .0 none)
+through-agrees t z rects p m a q none = lent-agrees t z rects p m a q (through-0-exactly t z rects p m a q .0 none)
 
--- ---- demand 3: as V1 onto the one, as V2 onto the other; the views' buffers may be any that are long enough
+-- ---- demand 3: as V1 onto the one, as V2 onto the other, by either rule; the views' buffers may be any that are long enough
 
-pub layouts-agree : (z : Size) (rects : List ℕ) (p m a q m′ a′ q′ : Planes) → Lent z rects p m a q → Lent z rects p m′ a′ q′
-    → Agrees z rects (pictureOf z p) (pictureOf z q) (pictureOf z (throughOf V1 z rects p m a q))
-    × Agrees z rects (pictureOf z p) (pictureOf z q′) (pictureOf z (throughOf V2 z rects p m′ a′ q′))
-layouts-agree z rects p m a q m′ a′ q′ one two = (lent-agrees V1 z rects p m a q one, lent-agrees V2 z rects p m′ a′ q′ two)
+pub layouts-agree : (rule : WidthRule) (z : Size) (rects : List ℕ) (p m a q m′ a′ q′ : Planes) → Lent AsV1 z rects p m a q → Lent (AsV2 rule) z rects p m′ a′ q′
+    → Agrees z rects (pictureOf z p) (pictureOf z q) (pictureOf z (throughOf AsV1 z rects p m a q))
+    × Agrees z rects (pictureOf z p) (pictureOf z q′) (pictureOf z (throughOf (AsV2 rule) z rects p m′ a′ q′))
+layouts-agree rule z rects p m a q m′ a′ q′ one two = (lent-agrees AsV1 z rects p m a q one, lent-agrees (AsV2 rule) z rects p m′ a′ q′ two)

@@ -49,6 +49,20 @@ luma-inside z w rects r c wide high hr hc =
     taken-holds (mainLuma z w) rects r c (f .0) (f .1 .0)
     (mainLuma-holds z w (q .left) (q .top) (q .right) (q .bottom) r c (g .0) (omega arith) (omega arith) (g .2) (omega arith)))
 
+-- of two views that are as large as the padded planes, the same luma is taken
+pub luma-wider : (z : Size) (w w′ : View) (rects : List ℕ) (r c : ℕ) → strideOf z ≤ w .width → strideOf z ≤ w′ .width → rowsOf z ≤ w .height → rowsOf z ≤ w′ .height
+    → taken (mainLuma z w) rects r c ≡ taken (mainLuma z w′) rects r c
+unfolding nth
+luma-wider z w w′ rects r c wide wide′ high high′ = same-test _ _ (one w w′ wide′ high′) (one w′ w wide high)
+  where
+    one : (w w′ : View) → strideOf z ≤ w′ .width → rowsOf z ≤ w′ .height → taken (mainLuma z w) rects r c ≡ true → taken (mainLuma z w′) rects r c ≡ true
+    one w w′ wide high e =
+        let f = taken-facts (mainLuma z w) rects r c e in
+        let q = rectAtOf rects (f .0) in
+        let g = mainLuma-facts z w (q .left) (q .top) (q .right) (q .bottom) r c (f .1 .1) in
+        taken-holds (mainLuma z w′) rects r c (f .0) (f .1 .0)
+        (mainLuma-holds z w′ (q .left) (q .top) (q .right) (q .bottom) r c (g .0) (g .1) (omega arith) (g .3) (omega arith))
+
 -- a widened rectangle lies in the padded planes
 pub widened-within : (z : Size) (rects : List ℕ) (r c : ℕ) → widened z rects r c ≡ true → (r < rowsOf z) × (c < strideOf z)
 unfolding nth

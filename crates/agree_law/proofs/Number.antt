@@ -16,16 +16,16 @@ use Rattle.lent.proofs.Exactly.{nor}
 use Rattle.lent.proofs.Painted.{length-painted}
 use Rattle.lent.proofs.Refusal.{refusal-none}
 use Rattle.picture.specs.declared.Size.{Size}
-use Rattle.picture.specs.Sizes.{strideOf, rowsOf, planesShort, PlanesFit}
+use Rattle.picture.specs.Sizes.{rowsOf, planesShort}
 use Rattle.picture.proofs.Sizes.{fit-exactly}
 use Rattle.view.specs.View.{narrow, planeShort}
 use Rattle.view.proofs.Exactly.{narrow-none}
-use Rattle.layout.specs.declared.Layout.{Layout}
-use Rattle.layout.specs.declared.Layout.the-variants.{V1, V2}
+use Rattle.layout.specs.declared.Way.{Way}
 use Rattle.rects.specs.Number.{notFours, applyNumberOf}
 use Rattle.split.specs.declared.number.PlaneLengths.{PlaneLengths}
 use Rattle.split_views.specs.Fits.{Room}
-use Rattle.split.specs.Split.{Planes, lengthsOf, viewShort, splitNumberOf}
+use Rattle.split.specs.Split.{Planes, lengthsOf, splitWideOf, viewShort, splitNumberOf}
+use Rattle.split.proofs.Calls.{wide-enough}
 use Rattle.split.proofs.Short.{view-room}
 use Rattle.split.proofs.Exactly.{split-0-exactly, small-exactly}
 use Rattle.agree_law.specs.Through.{viewOf, mainViewOf, auxiliaryViewOf, withMain, firstOf, applyNumberOn, throughNumberOf, earlierNumberOf, Lent}
@@ -56,60 +56,60 @@ first-passed {n} {m} {j} {k} is zero then = then ∙ sym (cond-true (eqb m 0) k 
 
 -- ---- no step changes a length
 
-pub main-view-lengths : (z : Size) (p m : Planes) → lengthsOf (mainViewOf z p m) ≡ lengthsOf m
-main-view-lengths z p m = simp length-painted
+pub main-view-lengths : (t : Way) (z : Size) (p m : Planes) → lengthsOf (mainViewOf t z p m) ≡ lengthsOf m
+main-view-lengths t z p m = simp length-painted
 
-pub auxiliary-view-lengths : (t : Layout) (z : Size) (p a : Planes) → lengthsOf (auxiliaryViewOf t z p a) ≡ lengthsOf a
+pub auxiliary-view-lengths : (t : Way) (z : Size) (p a : Planes) → lengthsOf (auxiliaryViewOf t z p a) ≡ lengthsOf a
 auxiliary-view-lengths t z p a = simp length-painted
 
-pub with-main-lengths : (z : Size) (rects : List ℕ) (v q : Planes) → lengthsOf (withMain z rects v q) ≡ lengthsOf q
-with-main-lengths z rects v q = simp length-painted
+pub with-main-lengths : (t : Way) (z : Size) (rects : List ℕ) (v q : Planes) → lengthsOf (withMain t z rects v q) ≡ lengthsOf q
+with-main-lengths t z rects v q = simp length-painted
 
 -- ---- a split's views are accepted
 
-not-narrow : (z : Size) → narrow (viewOf z) ≡ false
-not-narrow z = narrow-none (viewOf z) .1 (omega arith, omega arith)
+not-narrow : (t : Way) (z : Size) → narrow (viewOf t z) ≡ false
+not-narrow t z = narrow-none (viewOf t z) .1 (omega arith, omega (arith, wide-enough t z .fours))
 
-not-short : (z : Size) (n : PlaneLengths) → viewShort z n ≡ false → planeShort (viewOf z) (n .y) (n .u) (n .v) ≡ false
+not-short : (t : Way) (z : Size) (n : PlaneLengths) → viewShort (splitWideOf t z) z n ≡ false → planeShort (viewOf t z) (n .y) (n .u) (n .v) ≡ false
 unfolding viewShort planeShort
-not-short z n e =
+not-short t z n e =
     let half : halfUp (rowsOf z) ≡ rowsOf z / 2 = omega arith in
-    ap (λ (h : ℕ). tooShort (strideOf z) (rowsOf z) (n .y) || tooShort (strideOf z / 2) h (n .u) || tooShort (strideOf z / 2) h (n .v)) half ∙ e
+    ap (λ (h : ℕ). tooShort (splitWideOf t z) (rowsOf z) (n .y) || tooShort (splitWideOf t z / 2) h (n .u) || tooShort (splitWideOf t z / 2) h (n .v)) half ∙ e
 
 -- so an apply call of such a view answers 1, 7 or 0
-pub apply-plainly : (z : Size) (rects : List ℕ) (v q : Planes) → viewShort z (lengthsOf v) ≡ false → applyNumberOn z rects v q ≡ earlierNumberOf z (lengthsOf q) (length rects)
+pub apply-plainly : (t : Way) (z : Size) (rects : List ℕ) (v q : Planes) → viewShort (splitWideOf t z) z (lengthsOf v) ≡ false → applyNumberOn t z rects v q ≡ earlierNumberOf z (lengthsOf q) (length rects)
 unfolding applyNumberOf earlierNumberOf
-apply-plainly z rects v q long = rw (not-narrow z, not-short z (lengthsOf v) long)
+apply-plainly t z rects v q long = rw (not-narrow t z, not-short t z (lengthsOf v) long)
 
-module _ (t : Layout) (z : Size) (rects : List ℕ) (p m a q : Planes) where
+module _ (t : Way) (z : Size) (rects : List ℕ) (p m a q : Planes) where
   -- the first number that a step would give
-  pub through-plainly : throughNumberOf t z rects p m a q ≡ firstOf (splitNumberOf z (lengthsOf p) (lengthsOf m) (lengthsOf a)) (earlierNumberOf z (lengthsOf q) (length rects))
+  pub through-plainly : throughNumberOf t z rects p m a q ≡ firstOf (splitNumberOf t z (lengthsOf p) (lengthsOf m) (lengthsOf a)) (earlierNumberOf z (lengthsOf q) (length rects))
   unfolding throughNumberOf
   through-plainly =
-      first-same (splitNumberOf z (lengthsOf p) (lengthsOf m) (lengthsOf a)) _ _
-      (λ none. let long = nor (viewShort z (lengthsOf m)) _ .0 (split-0-exactly z (lengthsOf p) (lengthsOf m) (lengthsOf a) .0 none .1 .1) in
-      let main = apply-plainly z rects (mainViewOf z p m) q (ap (viewShort z) (main-view-lengths z p m) ∙ long .0) in
-      let auxiliary = apply-plainly z rects (auxiliaryViewOf t z p a) (withMain z rects (mainViewOf z p m) q) (ap (viewShort z) (auxiliary-view-lengths t z p a) ∙ long .1) in
-      (λ i. firstOf (main i) ((auxiliary ∙ ap (λ (n : PlaneLengths). earlierNumberOf z n (length rects)) (with-main-lengths z rects (mainViewOf z p m) q)) i))
+      first-same (splitNumberOf t z (lengthsOf p) (lengthsOf m) (lengthsOf a)) _ _
+      (λ none. let long = nor (viewShort (splitWideOf t z) z (lengthsOf m)) _ .0 (split-0-exactly t z (lengthsOf p) (lengthsOf m) (lengthsOf a) .0 none .1 .1) in
+      let main = apply-plainly t z rects (mainViewOf t z p m) q (ap (viewShort (splitWideOf t z) z) (main-view-lengths t z p m) ∙ long .0) in
+      let auxiliary = apply-plainly t z rects (auxiliaryViewOf t z p a) (withMain t z rects (mainViewOf t z p m) q) (ap (viewShort (splitWideOf t z) z) (auxiliary-view-lengths t z p a) ∙ long .1) in
+      (λ i. firstOf (main i) ((auxiliary ∙ ap (λ (n : PlaneLengths). earlierNumberOf z n (length rects)) (with-main-lengths t z rects (mainViewOf t z p m) q)) i))
       ∙ cond-same (eqb (earlierNumberOf z (lengthsOf q) (length rects)) 0) _)
 
 -- of the two walks: the views' buffers are as long the second time
-pub both-plainly : (z : Size) (rects : List ℕ) (p m a q q′ : Planes)
-    → let s = splitNumberOf z (lengthsOf p) (lengthsOf m) (lengthsOf a) in
-    bothNumberOf z rects p m a q q′ ≡ firstOf (firstOf s (earlierNumberOf z (lengthsOf q) (length rects))) (firstOf s (earlierNumberOf z (lengthsOf q′) (length rects)))
+pub both-plainly : (t t′ : Way) (z : Size) (rects : List ℕ) (p m a q q′ : Planes)
+    → let s : Way → ℕ = λ t. splitNumberOf t z (lengthsOf p) (lengthsOf m) (lengthsOf a) in
+    bothNumberOf t t′ z rects p m a q q′ ≡ firstOf (firstOf (s t) (earlierNumberOf z (lengthsOf q) (length rects))) (firstOf (s t′) (earlierNumberOf z (lengthsOf q′) (length rects)))
 unfolding bothNumberOf
-both-plainly z rects p m a q q′ =
-    λ i. firstOf (through-plainly V1 z rects p m a q i)
-    ((through-plainly V2 z rects p (mainViewOf z p m) (auxiliaryViewOf V1 z p a) q′
-    ∙ (λ j. firstOf (splitNumberOf z (lengthsOf p) (main-view-lengths z p m j) (auxiliary-view-lengths V1 z p a j)) (earlierNumberOf z (lengthsOf q′) (length rects)))) i)
+both-plainly t t′ z rects p m a q q′ =
+    λ i. firstOf (through-plainly t z rects p m a q i)
+    ((through-plainly t′ z rects p (mainViewOf t z p m) (auxiliaryViewOf t z p a) q′
+    ∙ (λ j. firstOf (splitNumberOf t′ z (lengthsOf p) (main-view-lengths t z p m j) (auxiliary-view-lengths t z p a j)) (earlierNumberOf z (lengthsOf q′) (length rects)))) i)
 
 -- ---- 0, exactly when
 
-view-long : (z : Size) (n : PlaneLengths) → Room (n .y) (n .u) (n .v) (strideOf z) (rowsOf z) → viewShort z n ≡ false
+view-long : (W : ℕ) (z : Size) (n : PlaneLengths) → Room (n .y) (n .u) (n .v) W (rowsOf z) → viewShort W z n ≡ false
 unfolding viewShort
-view-long z n f =
-    nor (tooShort (strideOf z) (rowsOf z) (n .y) || tooShort (strideOf z / 2) (rowsOf z / 2) (n .u)) _ .1
-    (nor (tooShort (strideOf z) (rowsOf z) (n .y)) _ .1 (le-ltb (n .y) _ (f .y-room), le-ltb (n .u) _ (f .u-room)), le-ltb (n .v) _ (f .v-room))
+view-long W z n f =
+    nor (tooShort W (rowsOf z) (n .y) || tooShort (W / 2) (rowsOf z / 2) (n .u)) _ .1
+    (nor (tooShort W (rowsOf z) (n .y)) _ .1 (le-ltb (n .y) _ (f .y-room), le-ltb (n .u) _ (f .u-room)), le-ltb (n .v) _ (f .v-room))
 
 -- a list in fours
 fours-exactly : (nr : ℕ) → (notFours nr ≡ false) ↔ (nr % 4 ≡ 0)
@@ -122,45 +122,45 @@ earlier-0-exactly : (z : Size) (n : PlaneLengths) (nr : ℕ) → (earlierNumberO
 unfolding earlierNumberOf
 earlier-0-exactly z n nr = Iff·trans (refusal-none ((planesShort z (n .y) (n .u) (n .v), 1) ∷ (notFours nr, 7) ∷ []) tt) (Iff·and Iff·rfl and-true)
 
-module _ (z : Size) (rects : List ℕ) (p m a q : Planes) where
+module _ (t : Way) (z : Size) (rects : List ℕ) (p m a q : Planes) where
   abbrev split-number : ℕ
-  split-number = splitNumberOf z (lengthsOf p) (lengthsOf m) (lengthsOf a)
+  split-number = splitNumberOf t z (lengthsOf p) (lengthsOf m) (lengthsOf a)
 
-  pub lent : firstOf split-number (earlierNumberOf z (lengthsOf q) (length rects)) ≡ 0 → Lent z rects p m a q
+  pub lent : firstOf split-number (earlierNumberOf z (lengthsOf q) (length rects)) ≡ 0 → Lent t z rects p m a q
   lent none =
       let zero = first-zero split-number _ none in
-      let f = split-0-exactly z (lengthsOf p) (lengthsOf m) (lengthsOf a) .0 (zero .0) in
-      let small = small-exactly z .0 (f .1 .0) in
-      let long = nor (viewShort z (lengthsOf m)) _ .0 (f .1 .1) in
+      let f = split-0-exactly t z (lengthsOf p) (lengthsOf m) (lengthsOf a) .0 (zero .0) in
+      let small = small-exactly t z .0 (f .1 .0) in
+      let long = nor (viewShort (splitWideOf t z) z (lengthsOf m)) _ .0 (f .1 .1) in
       let e = earlier-0-exactly z (lengthsOf q) (length rects) .0 (zero .1) in
       record {
         wide = small .0;
         high = small .1;
         fours = fours-exactly (length rects) .0 (e .1);
         picture = fit-exactly z _ _ _ .0 (f .0);
-        main = view-room z (lengthsOf m) (long .0);
-        auxiliary = view-room z (lengthsOf a) (long .1);
+        main = view-room (splitWideOf t z) z (lengthsOf m) (long .0);
+        auxiliary = view-room (splitWideOf t z) z (lengthsOf a) (long .1);
         earlier = fit-exactly z _ _ _ .0 (e .0);
       }
 
-  accepted : Lent z rects p m a q → (split-number ≡ 0) × (earlierNumberOf z (lengthsOf q) (length rects) ≡ 0)
+  accepted : Lent t z rects p m a q → (split-number ≡ 0) × (earlierNumberOf z (lengthsOf q) (length rects) ≡ 0)
   accepted l = (
-    split-0-exactly z (lengthsOf p) (lengthsOf m) (lengthsOf a) .1
-        (fit-exactly z _ _ _ .1 (l .picture), (small-exactly z .1 (l .wide, l .high), nor (viewShort z (lengthsOf m)) _ .1 (view-long z (lengthsOf m) (l .main), view-long z (lengthsOf a) (l .auxiliary)))),
+    split-0-exactly t z (lengthsOf p) (lengthsOf m) (lengthsOf a) .1
+        (fit-exactly z _ _ _ .1 (l .picture), (small-exactly t z .1 (l .wide, l .high), nor (viewShort (splitWideOf t z) z (lengthsOf m)) _ .1 (view-long (splitWideOf t z) z (lengthsOf m) (l .main), view-long (splitWideOf t z) z (lengthsOf a) (l .auxiliary)))),
     earlier-0-exactly z (lengthsOf q) (length rects) .1 (fit-exactly z _ _ _ .1 (l .earlier), fours-exactly (length rects) .1 (l .fours)),
   )
 
-  pub through-0-exactly : (t : Layout) → (throughNumberOf t z rects p m a q ≡ 0) ↔ Lent z rects p m a q
-  through-0-exactly t = (
+  pub through-0-exactly : (throughNumberOf t z rects p m a q ≡ 0) ↔ Lent t z rects p m a q
+  through-0-exactly = (
     λ e. lent (sym (through-plainly t z rects p m a q) ∙ e),
     λ l. let zero = accepted l in through-plainly t z rects p m a q ∙ (λ i. firstOf (zero .0 i) (zero .1 i)),
   )
 
 -- demand 3 is not vacuous: both walks are accepted exactly when both earlier pictures are lent as the demand takes them
-pub both-0-exactly : (z : Size) (rects : List ℕ) (p m a q q′ : Planes) → (bothNumberOf z rects p m a q q′ ≡ 0) ↔ (Lent z rects p m a q × Lent z rects p m a q′)
-both-0-exactly z rects p m a q q′ = (
-  λ e. let two = first-zero _ _ (sym (both-plainly z rects p m a q q′) ∙ e) in (lent z rects p m a q (two .0), lent z rects p m a q′ (two .1)),
-  λ l. let one = accepted z rects p m a q (l .0) in
-      let two = accepted z rects p m a q′ (l .1) in
-      both-plainly z rects p m a q q′ ∙ (λ i. firstOf (firstOf (one .0 i) (one .1 i)) (firstOf (two .0 i) (two .1 i))),
+pub both-0-exactly : (t t′ : Way) (z : Size) (rects : List ℕ) (p m a q q′ : Planes) → (bothNumberOf t t′ z rects p m a q q′ ≡ 0) ↔ (Lent t z rects p m a q × Lent t′ z rects p m a q′)
+both-0-exactly t t′ z rects p m a q q′ = (
+  λ e. let two = first-zero _ _ (sym (both-plainly t t′ z rects p m a q q′) ∙ e) in (lent t z rects p m a q (two .0), lent t′ z rects p m a q′ (two .1)),
+  λ l. let one = accepted t z rects p m a q (l .0) in
+      let two = accepted t′ z rects p m a q′ (l .1) in
+      both-plainly t t′ z rects p m a q q′ ∙ (λ i. firstOf (firstOf (one .0 i) (one .1 i)) (firstOf (two .0 i) (two .1 i))),
 )

@@ -1,4 +1,4 @@
--- The walks end in one way; and two earlier pictures that were alike are left alike by the two layouts. Assumes nothing.
+-- The walks end in one way; and two earlier pictures that were alike are left alike, whatever the two ways. Assumes nothing.
 use Prim.Native.Nat.{ℕ}
 use mathlib.Core.Path.{_≡_}
 use mathlib.Core.List.{List, _++_}
@@ -6,28 +6,28 @@ use Rattle.lent.specs.declared.Answer.{Answer}
 use Rattle.lent.specs.Outcome.{answerOf}
 use Rattle.lent.proofs.Outcome.{outcome-unique}
 use Rattle.picture.specs.declared.Size.{Size}
-use Rattle.layout.specs.declared.Layout.{Layout}
+use Rattle.layout.specs.declared.Way.{Way}
 use Rattle.split.specs.Split.{Planes}
 use Rattle.agree_law.specs.Agrees.{pictureOf, Same}
 use Rattle.agree_law.specs.Through.{buffersIn, throughNumberOf, throughBuffersOf, ThroughOutcome}
 use Rattle.agree_law.specs.Both.{bothNumberOf, bothBuffersOf, BothOutcome}
 use Rattle.agree_law.proofs.Agree.{agrees-same}
 
-pub through-unique : (t : Layout) (z : Size) (rects : List ℕ) (p m a q : Planes) (r r′ : Answer) (m₁ a₁ x₁ m₂ a₂ x₂ : Planes)
+pub through-unique : (t : Way) (z : Size) (rects : List ℕ) (p m a q : Planes) (r r′ : Answer) (m₁ a₁ x₁ m₂ a₂ x₂ : Planes)
     → ThroughOutcome t z rects p m a q r m₁ a₁ x₁ → ThroughOutcome t z rects p m a q r′ m₂ a₂ x₂
     → (r ≡ r′) × ((buffersIn m₁ ++ (buffersIn a₁ ++ buffersIn x₁)) ≡ (buffersIn m₂ ++ (buffersIn a₂ ++ buffersIn x₂)))
 through-unique t z rects p m a q r r′ m₁ a₁ x₁ m₂ a₂ x₂ one two =
     outcome-unique (λ (n : ℕ). answerOf n 0) (λ n. throughBuffersOf n t z rects p m a q) (throughNumberOf t z rects p m a q) r r′ _ _ (one .ends) (two .ends)
 
-module _ (z : Size) (rects : List ℕ) (p m a q q′ : Planes) where
+module _ (t t′ : Way) (z : Size) (rects : List ℕ) (p m a q q′ : Planes) where
   pub both-unique : (r r′ : Answer) (m₁ a₁ x₁ x₁′ m₂ a₂ x₂ x₂′ : Planes)
-      → BothOutcome z rects p m a q q′ r m₁ a₁ x₁ x₁′ → BothOutcome z rects p m a q q′ r′ m₂ a₂ x₂ x₂′
+      → BothOutcome t t′ z rects p m a q q′ r m₁ a₁ x₁ x₁′ → BothOutcome t t′ z rects p m a q q′ r′ m₂ a₂ x₂ x₂′
       → (r ≡ r′) × ((buffersIn m₁ ++ (buffersIn a₁ ++ (buffersIn x₁ ++ buffersIn x₁′))) ≡ (buffersIn m₂ ++ (buffersIn a₂ ++ (buffersIn x₂ ++ buffersIn x₂′))))
   both-unique r r′ m₁ a₁ x₁ x₁′ m₂ a₂ x₂ x₂′ one two =
-      outcome-unique (λ (n : ℕ). answerOf n 0) (λ n. bothBuffersOf n z rects p m a q q′) (bothNumberOf z rects p m a q q′) r r′ _ _ (one .ends) (two .ends)
+      outcome-unique (λ (n : ℕ). answerOf n 0) (λ n. bothBuffersOf n t t′ z rects p m a q q′) (bothNumberOf t t′ z rects p m a q q′) r r′ _ _ (one .ends) (two .ends)
 
--- one earlier picture, lent twice: the two layouts leave the same luma of the picture's pixels and the same chroma
-pub both-same : (z : Size) (rects : List ℕ) (p m a q : Planes) (r : Answer) (m′ a′ x x′ : Planes) → BothOutcome z rects p m a q q r m′ a′ x x′ → r .number ≡ 0
+-- one earlier picture, lent twice: the two ways leave the same luma of the picture's pixels and the same chroma
+pub both-same : (t t′ : Way) (z : Size) (rects : List ℕ) (p m a q : Planes) (r : Answer) (m′ a′ x x′ : Planes) → BothOutcome t t′ z rects p m a q q r m′ a′ x x′ → r .number ≡ 0
     → Same z (pictureOf z x) (pictureOf z x′)
-both-same z rects p m a q r m′ a′ x x′ ends zero =
+both-same t t′ z rects p m a q r m′ a′ x x′ ends zero =
     agrees-same z rects (pictureOf z p) (pictureOf z q) (pictureOf z x) (pictureOf z x′) (ends .first zero) (ends .second zero)

@@ -2,6 +2,7 @@
 -- of these steps (`agrees`).
 --
 --   ViewSamples           what the planes of a view hold, by row and column
+--   seenPicture z p       what a split sees of three lent planes: those of the picture as if they went on past the stride, with Y 0, U and V 128
 --   Extends z p p′        p′ holds what p does in the padded planes: p′ may be p itself, or p as if its planes went on past the stride
 --   Steps m w z rects p q mid x main auxiliary      the views main and auxiliary are the split of p by the maps m, mid is the earlier picture q
 --                         with main applied over the list, and x is mid with auxiliary applied
@@ -19,6 +20,7 @@ use Rattle.layout.specs.Maps.{Part, PY, PU, PV, Place, Spot, Maps, place, spot,
 use Rattle.layout.specs.Exists.{side, gives}
 use Rattle.rects.specs.Rects.{taken}
 use Rattle.apply_main.specs.Main.{mainLuma}
+use Rattle.split.specs.Split.{Planes, seen, pickChroma}
 use Rattle.agree_law.specs.Agrees.{Picture, widened}
 
 abbrev pub ViewSamples : Type 0
@@ -39,6 +41,9 @@ mainView p PV r c = atPlace p (fromMain CV r c)
 
 abbrev pub auxiliaryView : Maps → Picture → ViewSamples
 auxiliaryView m p q r c = atPlace p (m .place (spot q r c))
+
+abbrev pub seenPicture : Size → Planes → Picture
+seenPicture z p = record { luma = seen 0 (p .y) (strideOf z); chroma = λ k. seen 128 (pickChroma k (p .u) (p .v)) (strideOf z) }
 
 pub record Extends (z : Size) (p p′ : Picture) : Type 0 where
   pub luma : (r c : ℕ) → r < rowsOf z → c < strideOf z → p′ .luma r c ≡ p .luma r c

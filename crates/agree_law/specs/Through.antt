@@ -1,22 +1,25 @@
 -- Split, apply the main view, apply the auxiliary view: the definitions that those calls' contracts cite, one after the other.
 --
 --   buffersIn p              three buffers as a list; `threeOf` leads back
---   viewOf z                 the size of both views of a split: stride by rows, luma stride the stride, chroma stride half of it
+--   viewOf t z               the size of both views of a split, the picture being sent the way t: W by rows, luma stride W, chroma stride half of
+--                            it; W is V2's, and the stride for V1
 --   viewIn r                 the same, as a split's answer r has it
---   mainViewOf z p m         the buffers m of the main view, once a split of the picture p has written them
---   auxiliaryViewOf t z p a        the same of the auxiliary view, in the layout t
---   withMain z rects v q     the picture q, once the main view v is applied over the list
+--   appliedLayoutOf t z      the layout that an apply call finds for such a view
+--   mainViewOf t z p m       the buffers m of the main view, once a split of the picture p has written them
+--   auxiliaryViewOf t z p a        the same of the auxiliary view
+--   withMain t z rects v q   the picture q, once the main view v is applied over the list
 --   withAuxiliary t z rects v q    the picture q, once the auxiliary view v is applied over the list
 --   throughOf t z rects p m a q      the earlier picture q after the three steps
 --   laidOver z rects p q     the picture p laid over the earlier picture q, with no view between: p's luma where the main view's call takes
---                            luma, p's chroma in each widened rectangle, every other byte of q's buffers as it was. In either layout the
---                            three steps leave just this (`through-laid`)
+--                            luma, p's chroma in each widened rectangle, every other byte of q's buffers as it was. Whatever the way,
+--                            the three steps leave just this (`through-laid`)
 --   laidBy rule z rects s o  of one plane: the samples of s that the rule takes over the list, laid over o
 --   firstOf n k              n where it is a refusal, else k
---   applyNumberOn z rects v q        the number of an apply call of the view v, of a split's size, onto the picture q
+--   applyNumberOn t z rects v q      the number of an apply call of the view v, of a split's size, onto the picture q
 --   throughNumberOf t z rects p m a q      the first number that a step would give, 0 where none would refuse
 --   earlierNumberOf z n nr   what the apply calls can refuse: 1 and 7, since a split's views are never narrow or short (`through-plainly`)
---   Lent z rects p m a q     what 0 says (`through-0-exactly`): sides of 0 to 65,520, a list in fours, and buffers that are long enough
+--   Lent t z rects p m a q   what 0 says (`through-0-exactly`): sides of 0 to 65,520, a width of 0 to 65,504 by the 32 rule, a list in fours, and
+--                            buffers that are long enough
 --   planesAfter n old new    three buffers after a call that answered n
 --   throughBuffersOf n t z rects p m a q      the views' buffers and the earlier picture after the three steps, the number being n
 --   ThroughOutcome ...       how the three steps end: the answer r, the views' buffers m′ and a′, and x, which the earlier picture has become.
@@ -35,7 +38,10 @@ use Rattle.lent.specs.Samples.{sample}
 use Rattle.picture.specs.declared.Size.{Size}
 use Rattle.picture.specs.Sizes.{strideOf, rowsOf, planesShort, PlanesFit}
 use Rattle.view.specs.declared.View.{View}
+use Rattle.layout.specs.Maps.{layoutOf}
 use Rattle.layout.specs.declared.Layout.{Layout}
+use Rattle.layout.specs.declared.Way.{Way}
+use Rattle.layout.specs.declared.Way.the-variants.{AsV1}
 use Rattle.rects.specs.Rects.{Rule, taken, area}
 use Rattle.rects.specs.Number.{notFours, lentNumberOf}
 use Rattle.apply_main.specs.Main.{mainLuma, mainBuffersOf}
@@ -43,7 +49,7 @@ use Rattle.apply_auxiliary.specs.Auxiliary.{auxiliaryBuffersOf}
 use Rattle.split.specs.declared.number.PlaneLengths.{PlaneLengths}
 use Rattle.split.specs.declared.number.Views.{Views}
 use Rattle.split_views.specs.Fits.{Room}
-use Rattle.split.specs.Split.{Planes, planes, lengthsOf, mainSample, auxiliarySample, viewAfter, splitNumberOf}
+use Rattle.split.specs.Split.{Planes, planes, lengthsOf, splitLayoutOf, splitWideOf, widestOf, mainSample, auxiliarySample, viewAfter, splitNumberOf}
 use Rattle.agree_law.specs.Agrees.{pictureOf, Agrees}
 
 abbrev pub buffersIn : Planes → List (List ℕ)
@@ -55,68 +61,71 @@ threeOf (y ∷ []) = planes y [] []
 threeOf (y ∷ u ∷ []) = planes y u []
 threeOf (y ∷ u ∷ v ∷ rest) = planes y u v
 
-abbrev pub viewOf : Size → View
-viewOf z = record { width = strideOf z; height = rowsOf z; «luma_stride» = strideOf z; «chroma_stride» = strideOf z / 2 }
+abbrev pub viewOf : Way → Size → View
+viewOf t z = record { width = splitWideOf t z; height = rowsOf z; «luma_stride» = splitWideOf t z; «chroma_stride» = splitWideOf t z / 2 }
+
+abbrev pub appliedLayoutOf : Way → Size → Layout
+appliedLayoutOf t z = layoutOf t (z .width) (viewOf t z .width)
 
 -- the size that a split's answer gives
 abbrev pub viewIn : Views → View
 viewIn r = record { width = r .width; height = r .height; «luma_stride» = r .«luma_stride»; «chroma_stride» = r .«chroma_stride» }
 
 -- what each call leaves where it answers 0
-abbrev pub mainViewOf : Size → Planes → Planes → Planes
-mainViewOf z p m = threeOf (viewAfter 0 z (mainSample (strideOf z) p) m)
+abbrev pub mainViewOf : Way → Size → Planes → Planes → Planes
+mainViewOf t z p m = threeOf (viewAfter 0 (splitWideOf t z) z (mainSample (strideOf z) p) m)
 
-abbrev pub auxiliaryViewOf : Layout → Size → Planes → Planes → Planes
-auxiliaryViewOf t z p a = threeOf (viewAfter 0 z (auxiliarySample t (strideOf z) (p .u) (p .v)) a)
+abbrev pub auxiliaryViewOf : Way → Size → Planes → Planes → Planes
+auxiliaryViewOf t z p a = threeOf (viewAfter 0 (splitWideOf t z) z (auxiliarySample (splitLayoutOf t z) (strideOf z) (p .u) (p .v)) a)
 
-abbrev pub withMain : Size → List ℕ → Planes → Planes → Planes
-withMain z rects v q = threeOf (mainBuffersOf 0 z (viewOf z) rects (v .y) (v .u) (v .v) (q .y) (q .u) (q .v))
+abbrev pub withMain : Way → Size → List ℕ → Planes → Planes → Planes
+withMain t z rects v q = threeOf (mainBuffersOf 0 z (viewOf t z) rects (v .y) (v .u) (v .v) (q .y) (q .u) (q .v))
 
-abbrev pub withAuxiliary : Layout → Size → List ℕ → Planes → Planes → Planes
-withAuxiliary t z rects v q = threeOf (auxiliaryBuffersOf 0 t z (viewOf z) rects (v .y) (v .u) (v .v) (q .y) (q .u) (q .v))
+abbrev pub withAuxiliary : Way → Size → List ℕ → Planes → Planes → Planes
+withAuxiliary t z rects v q = threeOf (auxiliaryBuffersOf 0 (appliedLayoutOf t z) z (viewOf t z) rects (v .y) (v .u) (v .v) (q .y) (q .u) (q .v))
 
-unfoldable pub throughOf : Layout → Size → List ℕ → Planes → Planes → Planes → Planes → Planes
-throughOf t z rects p m a q = withAuxiliary t z rects (auxiliaryViewOf t z p a) (withMain z rects (mainViewOf z p m) q)
+unfoldable pub throughOf : Way → Size → List ℕ → Planes → Planes → Planes → Planes → Planes
+throughOf t z rects p m a q = withAuxiliary t z rects (auxiliaryViewOf t z p a) (withMain t z rects (mainViewOf t z p m) q)
 
 abbrev pub laidBy : Rule → Size → List ℕ → List ℕ → List ℕ → List ℕ
 laidBy rule z rects s o = painted (strideOf z) (rowsOf z) (taken rule rects) (sample s (strideOf z)) o
 
 abbrev pub laidOver : Size → List ℕ → Planes → Planes → Planes
 laidOver z rects p q =
-    planes (laidBy (mainLuma z (viewOf z)) z rects (p .y) (q .y)) (laidBy (area z) z rects (p .u) (q .u)) (laidBy (area z) z rects (p .v) (q .v))
+    planes (laidBy (mainLuma z (viewOf AsV1 z)) z rects (p .y) (q .y)) (laidBy (area z) z rects (p .u) (q .u)) (laidBy (area z) z rects (p .v) (q .v))
 
 abbrev pub firstOf : ℕ → ℕ → ℕ
 firstOf n k = cond (eqb n 0) k n
 
-abbrev pub applyNumberOn : Size → List ℕ → Planes → Planes → ℕ
-applyNumberOn z rects v q = lentNumberOf z (viewOf z) rects (v .y) (v .u) (v .v) (q .y) (q .u) (q .v)
+abbrev pub applyNumberOn : Way → Size → List ℕ → Planes → Planes → ℕ
+applyNumberOn t z rects v q = lentNumberOf z (viewOf t z) rects (v .y) (v .u) (v .v) (q .y) (q .u) (q .v)
 
-unfoldable pub throughNumberOf : Layout → Size → List ℕ → Planes → Planes → Planes → Planes → ℕ
+unfoldable pub throughNumberOf : Way → Size → List ℕ → Planes → Planes → Planes → Planes → ℕ
 throughNumberOf t z rects p m a q =
-    firstOf (splitNumberOf z (lengthsOf p) (lengthsOf m) (lengthsOf a))
-    (firstOf (applyNumberOn z rects (mainViewOf z p m) q)
-    (applyNumberOn z rects (auxiliaryViewOf t z p a) (withMain z rects (mainViewOf z p m) q)))
+    firstOf (splitNumberOf t z (lengthsOf p) (lengthsOf m) (lengthsOf a))
+    (firstOf (applyNumberOn t z rects (mainViewOf t z p m) q)
+    (applyNumberOn t z rects (auxiliaryViewOf t z p a) (withMain t z rects (mainViewOf t z p m) q)))
 
 unfoldable pub earlierNumberOf : Size → PlaneLengths → ℕ → ℕ
 earlierNumberOf z n nr = refusal ((planesShort z (n .y) (n .u) (n .v), 1) ∷ (notFours nr, 7) ∷ [])
 
-pub record Lent (z : Size) (rects : List ℕ) (p m a q : Planes) : Type 0 where
-  pub wide : z .width ≤ 65520
+pub record Lent (t : Way) (z : Size) (rects : List ℕ) (p m a q : Planes) : Type 0 where
+  pub wide : z .width ≤ widestOf t
   pub high : z .height ≤ 65520
   pub fours : length rects % 4 ≡ 0
   pub picture : PlanesFit z (length (p .y)) (length (p .u)) (length (p .v))
-  pub main : Room (length (m .y)) (length (m .u)) (length (m .v)) (strideOf z) (rowsOf z)
-  pub auxiliary : Room (length (a .y)) (length (a .u)) (length (a .v)) (strideOf z) (rowsOf z)
+  pub main : Room (length (m .y)) (length (m .u)) (length (m .v)) (splitWideOf t z) (rowsOf z)
+  pub auxiliary : Room (length (a .y)) (length (a .u)) (length (a .v)) (splitWideOf t z) (rowsOf z)
   pub earlier : PlanesFit z (length (q .y)) (length (q .u)) (length (q .v))
 
 abbrev pub planesAfter : ℕ → Planes → Planes → List (List ℕ)
 planesAfter n old new = lentAfter n (old .y) (new .y) ∷ lentAfter n (old .u) (new .u) ∷ lentAfter n (old .v) (new .v) ∷ []
 
-unfoldable pub throughBuffersOf : ℕ → Layout → Size → List ℕ → Planes → Planes → Planes → Planes → List (List ℕ)
+unfoldable pub throughBuffersOf : ℕ → Way → Size → List ℕ → Planes → Planes → Planes → Planes → List (List ℕ)
 throughBuffersOf n t z rects p m a q =
-    planesAfter n m (mainViewOf z p m) ++ (planesAfter n a (auxiliaryViewOf t z p a) ++ planesAfter n q (throughOf t z rects p m a q))
+    planesAfter n m (mainViewOf t z p m) ++ (planesAfter n a (auxiliaryViewOf t z p a) ++ planesAfter n q (throughOf t z rects p m a q))
 
-pub record ThroughOutcome (t : Layout) (z : Size) (rects : List ℕ) (p m a q : Planes) (r : Answer) (m′ a′ x : Planes) : Type 0 where
+pub record ThroughOutcome (t : Way) (z : Size) (rects : List ℕ) (p m a q : Planes) (r : Answer) (m′ a′ x : Planes) : Type 0 where
   pub ends : Outcome (answerOf (throughNumberOf t z rects p m a q) 0) (throughBuffersOf (throughNumberOf t z rects p m a q) t z rects p m a q)
       r (buffersIn m′ ++ (buffersIn a′ ++ buffersIn x))
   pub agrees : r .number ≡ 0 → Agrees z rects (pictureOf z p) (pictureOf z q) (pictureOf z x)

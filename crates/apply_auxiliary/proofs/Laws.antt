@@ -93,9 +93,9 @@ module _ (t : Layout) {w w′ : View} {vy vu vv vy′ vu′ vv′ : List ℕ} (a
 
   source-alike : (k : Chroma) (r c : ℕ) → fed t (w .width) (w .height) r c ≡ true → auxiliarySource t k w vy vu vv r c ≡ auxiliarySource t k w′ vy′ vu′ vv′ r c
   unfolding auxiliarySource
-  source-alike k r c e = at-spot (maps t (w .width) .spot (place k r c)) (here k) ∙ ap (λ (n : ℕ). viewSample w′ vy′ vu′ vv′ (maps t n .spot (place k r c))) (alike .width)
+  source-alike k r c e = at-spot (maps t .spot (place k r c)) (here k)
     where
-      here : (k : Chroma) → present (w .width) (w .height) (maps t (w .width) .spot (place k r c)) ≡ true
+      here : (k : Chroma) → present (w .width) (w .height) (maps t .spot (place k r c)) ≡ true
       here CU = fed-facts t (w .width) (w .height) r c e .1
       here CV = fed-facts t (w .width) (w .height) r c e .2
 

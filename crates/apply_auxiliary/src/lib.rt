@@ -50,11 +50,12 @@ fn v1_rows(
     }
 }
 
-// The rows of the area, one after the other, by V2.
+// The rows of the area, one after the other, by V2; `wide` is its W.
 fn v2_rows(
     u: &mut [u8],
     v: &mut [u8],
     size: Size,
+    wide: usize,
     area: Area,
     w: View,
     vy: &[u8],
@@ -64,14 +65,14 @@ fn v2_rows(
     requires { ⌜ AreaFits size (length (now u)) (area .bottom) (area .left) (area .right) ⌝ }
     requires { ⌜ AreaFits size (length (now v)) (area .bottom) (area .left) (area .right) ⌝ }
     requires { ⌜ ViewFits w (length (now vy)) (length (now vu)) (length (now vv)) ⌝ }
-    ensures u { λ _. ⌜ now (u .exit) ≡ painted (strideOf size) (rowsOf size) (auxiliaryIn V2 w area)
-        (auxiliarySource V2 CU w (now (vy .entry)) (now (vu .entry)) (now (vv .entry))) (now (u .entry)) ⌝ }
-    ensures v { λ _. ⌜ now (v .exit) ≡ painted (strideOf size) (rowsOf size) (auxiliaryIn V2 w area)
-        (auxiliarySource V2 CV w (now (vy .entry)) (now (vu .entry)) (now (vv .entry))) (now (v .entry)) ⌝ }
+    ensures u { λ _. ⌜ now (u .exit) ≡ painted (strideOf size) (rowsOf size) (auxiliaryIn (V2 wide) w area)
+        (auxiliarySource (V2 wide) CU w (now (vy .entry)) (now (vu .entry)) (now (vv .entry))) (now (u .entry)) ⌝ }
+    ensures v { λ _. ⌜ now (v .exit) ≡ painted (strideOf size) (rowsOf size) (auxiliaryIn (V2 wide) w area)
+        (auxiliarySource (V2 wide) CV w (now (vy .entry)) (now (vu .entry)) (now (vv .entry))) (now (v .entry)) ⌝ }
 {
     let mut row = area.top;
     while row < area.bottom {
-        v2_row(u, v, size, w, vy, vu, vv, row, area.left, area.right);
+        v2_row(u, v, size, wide, w, vy, vu, vv, row, area.left, area.right);
         row += 1;
     }
 }
@@ -98,7 +99,7 @@ fn auxiliary_rows(
 {
     match layout {
         Layout::V1 => v1_rows(u, v, size, area, w, vy, vu, vv),
-        Layout::V2 => v2_rows(u, v, size, area, w, vy, vu, vv),
+        Layout::V2(wide) => v2_rows(u, v, size, wide, area, w, vy, vu, vv),
     }
 }
 

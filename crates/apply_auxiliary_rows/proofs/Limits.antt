@@ -11,6 +11,6 @@ module _ (start stride m wide half stop : ℕ) (row : start + stride ≤ m) (nar
   pub evens-seen : stop ≤ 4 * (wide - half) → start + half + (stop / 2 + 1) / 2 ≤ m
   evens-seen below = omega arith
 
--- V2: where both samples of odd columns exist, so do those of even columns
-pub odds-below-evens : (vw : ℕ) → v2OddsBelowOf vw ≤ v2EvensBelowOf vw
-odds-below-evens vw = omega arith
+-- V2, by any W: where both samples of odd columns exist, so do those of even columns
+pub odds-below-evens : (W vw : ℕ) → v2OddsBelowOf W vw ≤ v2EvensBelowOf W vw
+odds-below-evens W vw = omega arith

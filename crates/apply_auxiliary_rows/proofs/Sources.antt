@@ -14,7 +14,7 @@ use Rattle.lent.proofs.Bools.{never-true, cond-true, cond-false}
 use Rattle.view.specs.declared.View.{View}
 use Rattle.layout.specs.declared.Chroma.{Chroma}
 use Rattle.layout.specs.declared.Layout.the-variants.{V1, V2}
-use Rattle.layout.specs.Maps.{PU, PV, Spot, partOf, shift, upperOf, v2WidthOf}
+use Rattle.layout.specs.Maps.{PU, PV, Spot, partOf, shift, upperOf}
 use Rattle.layout.proofs.Spots.{v1-odd-spot, v1-even-spot, v2-odd-spot, v2-even-spot}
 use Rattle.columns.specs.Turns.{woven}
 use Rattle.columns.proofs.Sources.{part-at}
@@ -40,10 +40,10 @@ turns-part u v at left stop j e e′ h ej =
     (parity m)
 
 module _ (k : Chroma) (w : View) (vy vu vv : List ℕ) (r c : ℕ) where
-  v2-odd-source : c % 2 ≡ 1 → auxiliarySource V2 k w vy vu vv r c ≡ getD vy (r * w .«luma_stride» + shift k (v2WidthOf (w .width) / 2) + c / 2) 0
+  v2-odd-source : (W : ℕ) → c % 2 ≡ 1 → auxiliarySource (V2 W) k w vy vu vv r c ≡ getD vy (r * w .«luma_stride» + shift k (W / 2) + c / 2) 0
   unfolding auxiliarySource sample
-  v2-odd-source h =
-      ap (λ (s : Spot). viewSample w vy vu vv s) (v2-odd-spot k r c (v2WidthOf (w .width)) h)
+  v2-odd-source W h =
+      ap (λ (s : Spot). viewSample w vy vu vv s) (v2-odd-spot k r c W h)
       ∙ ap (λ (i : ℕ). getD vy i 0) (omega arith)
 
   by-turns : (b : Bool) (n j : ℕ) → partSample w vy vu vv (cond b PU PV) n j ≡ cond b (getD vu (n * w .«chroma_stride» + j) 0) (getD vv (n * w .«chroma_stride» + j) 0)
@@ -51,11 +51,11 @@ module _ (k : Chroma) (w : View) (vy vu vv : List ℕ) (r c : ℕ) where
   by-turns true n j = refl
   by-turns false n j = refl
 
-  v2-even-source : (at : ℕ) → at ≡ r / 2 * w .«chroma_stride» + shift k (v2WidthOf (w .width) / 4) → c % 2 ≡ 0
-      → auxiliarySource V2 k w vy vu vv r c ≡ cond (eqb (c % 4) 0) (getD vu (at + c / 4) 0) (getD vv (at + c / 4) 0)
+  v2-even-source : (W at : ℕ) → at ≡ r / 2 * w .«chroma_stride» + shift k (W / 4) → c % 2 ≡ 0
+      → auxiliarySource (V2 W) k w vy vu vv r c ≡ cond (eqb (c % 4) 0) (getD vu (at + c / 4) 0) (getD vv (at + c / 4) 0)
   unfolding auxiliarySource
-  v2-even-source at is h =
-      ap (λ (s : Spot). viewSample w vy vu vv s) (v2-even-spot k r c (v2WidthOf (w .width)) h)
+  v2-even-source W at is h =
+      ap (λ (s : Spot). viewSample w vy vu vv s) (v2-even-spot k r c W h)
       ∙ by-turns (eqb (c % 4) 0) (r / 2) _
       ∙ ap (λ (i : ℕ). cond (eqb (c % 4) 0) (getD vu i 0) (getD vv i 0)) (omega arith)
 
@@ -68,15 +68,15 @@ module _ (k : Chroma) (w : View) (vy vu vv : List ℕ) (r c : ℕ) where
   v1-even-source h = ap (λ (s : Spot). viewSample w vy vu vv s) (v1-even-spot k r c h)
 
 -- the parts of the view's rows that are handed on, where `at` is the own half's start
-module _ (k : Chroma) (w : View) (vy vu vv : List ℕ) (r at left stop j : ℕ) (by-two : left % 2 ≡ 0) (to-two : stop % 2 ≡ 0) (below : left + j < stop) where
-  pub v2-odd-part : at ≡ r * w .«luma_stride» + shift k (v2WidthOf (w .width) / 2) → j % 2 ≡ 1
-      → getD (take (at + stop / 2 - (at + left / 2)) (drop (at + left / 2) vy)) (j / 2) 0 ≡ auxiliarySource V2 k w vy vu vv r (left + j)
+module _ (W : ℕ) (k : Chroma) (w : View) (vy vu vv : List ℕ) (r at left stop j : ℕ) (by-two : left % 2 ≡ 0) (to-two : stop % 2 ≡ 0) (below : left + j < stop) where
+  pub v2-odd-part : at ≡ r * w .«luma_stride» + shift k (W / 2) → j % 2 ≡ 1
+      → getD (take (at + stop / 2 - (at + left / 2)) (drop (at + left / 2) vy)) (j / 2) 0 ≡ auxiliarySource (V2 W) k w vy vu vv r (left + j)
   v2-odd-part is o =
       part-at vy (at + left / 2) (at + stop / 2 - (at + left / 2)) (j / 2) (at + (left + j) / 2) (omega arith) (omega arith)
       ∙ ap (λ (i : ℕ). getD vy (i + (left + j) / 2) 0) is
-      ∙ sym (v2-odd-source k w vy vu vv r (left + j) (omega arith))
+      ∙ sym (v2-odd-source k w vy vu vv r (left + j) W (omega arith))
 
-  pub v2-even-part : at ≡ r / 2 * w .«chroma_stride» + shift k (v2WidthOf (w .width) / 4) → j % 2 ≡ 0
+  pub v2-even-part : at ≡ r / 2 * w .«chroma_stride» + shift k (W / 4) → j % 2 ≡ 0
       → woven (take (at + (stop / 2 + 1) / 2 - (at + left / 4)) (drop (at + left / 4) vu)) (take (at + (stop / 2 + 1) / 2 - (at + left / 4)) (drop (at + left / 4) vv)) (left / 2 % 2 + j / 2)
-      ≡ auxiliarySource V2 k w vy vu vv r (left + j)
-  v2-even-part is z = turns-part vu vv at left stop j by-two to-two below z ∙ sym (v2-even-source k w vy vu vv r (left + j) at is (omega arith))
+      ≡ auxiliarySource (V2 W) k w vy vu vv r (left + j)
+  v2-even-part is z = turns-part vu vv at left stop j by-two to-two below z ∙ sym (v2-even-source k w vy vu vv r (left + j) W at is (omega arith))

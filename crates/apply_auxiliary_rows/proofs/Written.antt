@@ -17,7 +17,7 @@ use Rattle.picture.specs.Sizes.{strideOf, rowsOf}
 use Rattle.view.specs.declared.View.{View}
 use Rattle.layout.specs.declared.Chroma.{Chroma}
 use Rattle.layout.specs.declared.Layout.the-variants.{V1, V2}
-use Rattle.layout.specs.Maps.{partOf, shift, upperOf, v2WidthOf}
+use Rattle.layout.specs.Maps.{partOf, shift, upperOf}
 use Rattle.layout.specs.Exists.{fed, v2OddsBelowOf, v2EvensBelowOf}
 use Rattle.layout.proofs.Pairs.{v1-odd-facts, v1-odd-holds, v1-even-facts, v1-even-holds, v2-odd-holds, v2-even-holds}
 use Rattle.columns.specs.Turns.{odd, even, woven}
@@ -60,54 +60,54 @@ module _ (k : Chroma) (z : Size) (w : View) (vy vu vv xs ys : List ℕ) (row lef
       (λ c l h o. (omega arith, v1-even-holds (w .width) (w .height) row c by (odd-true c o) there (omega arith)))
       (λ c l h f. let t = v1-even-facts (w .width) (w .height) row c by f in (omega arith, is-odd c (t .0)))
 
-  pub v2-odds-written : row < w .height → at ≡ row * w .«luma_stride» + shift k (v2WidthOf (w .width) / 2) → stop ≡ min right (v2OddsBelowOf (w .width))
+  pub v2-odds-written : (W : ℕ) → row < w .height → at ≡ row * w .«luma_stride» + shift k (W / 2) → stop ≡ min right (v2OddsBelowOf W (w .width))
       → ys ≡ paint odd (λ j. getD (part vy (at + left / 2) (at + stop / 2)) (j / 2) 0) (part xs (row * n + left) (row * n + stop))
-      → backIn xs (row * n + left) (row * n + stop) ys ≡ painted (strideOf z) (rowsOf z) (auxiliaryOnly odd V2 w row left right) (auxiliarySource V2 k w vy vu vv) xs
-  v2-odds-written there own stops is =
+      → backIn xs (row * n + left) (row * n + stop) ys ≡ painted (strideOf z) (rowsOf z) (auxiliaryOnly odd (V2 W) w row left right) (auxiliarySource (V2 W) k w vy vu vv) xs
+  v2-odds-written W there own stops is =
       let e = fits .even-left in
       let e′ = fits .even-right in
-      area-written z xs row left right fits n is-stride stop odd _ odd (auxiliarySource V2 k w vy vu vv) _ ys low (omega arith) is
+      area-written z xs row left right fits n is-stride stop odd _ odd (auxiliarySource (V2 W) k w vy vu vv) _ ys low (omega arith) is
       (λ j h. odd-shift left j e)
-      (λ j h o. v2-odd-part k w vy vu vv row at left stop j e (omega arith) h own (odd-true j o))
-      (λ c l h o. (omega arith, v2-odds-holds w row c (odd-true c o) there (omega arith)))
-      (λ c l h f. let t = v2-odds-facts w row c f in (omega arith, is-odd c (t .0)))
+      (λ j h o. v2-odd-part W k w vy vu vv row at left stop j e (omega arith) h own (odd-true j o))
+      (λ c l h o. (omega arith, v2-odds-holds W w row c (odd-true c o) there (omega arith)))
+      (λ c l h f. let t = v2-odds-facts W w row c f in (omega arith, is-odd c (t .0)))
 
-  pub v2-evens-written : row % 2 ≡ 1 → row / 2 < halfUp (w .height) → at ≡ row / 2 * w .«chroma_stride» + shift k (v2WidthOf (w .width) / 4)
-      → stop ≡ min right (v2EvensBelowOf (w .width))
+  pub v2-evens-written : (W : ℕ) → row % 2 ≡ 1 → row / 2 < halfUp (w .height) → at ≡ row / 2 * w .«chroma_stride» + shift k (W / 4)
+      → stop ≡ min right (v2EvensBelowOf W (w .width))
       → ys ≡ paint even (λ j. woven (part vu (at + left / 4) (at + (stop / 2 + 1) / 2)) (part vv (at + left / 4) (at + (stop / 2 + 1) / 2)) (left / 2 % 2 + j / 2))
       (part xs (row * n + left) (row * n + stop))
-      → backIn xs (row * n + left) (row * n + stop) ys ≡ painted (strideOf z) (rowsOf z) (auxiliaryOnly even V2 w row left right) (auxiliarySource V2 k w vy vu vv) xs
-  v2-evens-written by there own stops is =
+      → backIn xs (row * n + left) (row * n + stop) ys ≡ painted (strideOf z) (rowsOf z) (auxiliaryOnly even (V2 W) w row left right) (auxiliarySource (V2 W) k w vy vu vv) xs
+  v2-evens-written W by there own stops is =
       let e = fits .even-left in
       let e′ = fits .even-right in
-      area-written z xs row left right fits n is-stride stop even _ even (auxiliarySource V2 k w vy vu vv) _ ys low (omega arith) is
+      area-written z xs row left right fits n is-stride stop even _ even (auxiliarySource (V2 W) k w vy vu vv) _ ys low (omega arith) is
       (λ j h. even-shift left j e)
-      (λ j h o. v2-even-part k w vy vu vv row at left stop j e (omega arith) h own (even-true j o))
-      (λ c l h o. (omega arith, v2-evens-holds w row c (even-true c o) by there (omega arith)))
-      (λ c l h f. let t = v2-evens-facts w row c f in (omega arith, is-even c (t .0)))
+      (λ j h o. v2-even-part W k w vy vu vv row at left stop j e (omega arith) h own (even-true j o))
+      (λ c l h o. (omega arith, v2-evens-holds W w row c (even-true c o) by there (omega arith)))
+      (λ c l h f. let t = v2-evens-facts W w row c f in (omega arith, is-even c (t .0)))
 
   -- below the limit of the odd columns the even ones exist too, so that every column to `stop` is fed; the chroma rows' own halves start at `under`
-  pub v2-all-written : (under : ℕ) → row % 2 ≡ 1 → row < w .height → row / 2 < halfUp (w .height)
-      → at ≡ row * w .«luma_stride» + shift k (v2WidthOf (w .width) / 2) → under ≡ row / 2 * w .«chroma_stride» + shift k (v2WidthOf (w .width) / 4)
-      → stop ≡ min right (v2OddsBelowOf (w .width))
+  pub v2-all-written : (W under : ℕ) → row % 2 ≡ 1 → row < w .height → row / 2 < halfUp (w .height)
+      → at ≡ row * w .«luma_stride» + shift k (W / 2) → under ≡ row / 2 * w .«chroma_stride» + shift k (W / 4)
+      → stop ≡ min right (v2OddsBelowOf W (w .width))
       → ys ≡ paint every (λ j. cond (odd j) (getD (part vy (at + left / 2) (at + stop / 2)) (j / 2) 0)
       (woven (part vu (under + left / 4) (under + (stop / 2 + 1) / 2)) (part vv (under + left / 4) (under + (stop / 2 + 1) / 2)) (left / 2 % 2 + j / 2)))
       (part xs (row * n + left) (row * n + stop))
-      → backIn xs (row * n + left) (row * n + stop) ys ≡ painted (strideOf z) (rowsOf z) (auxiliaryRow V2 w row left stop) (auxiliarySource V2 k w vy vu vv) xs
-  v2-all-written under by luma chroma own own′ stops is =
+      → backIn xs (row * n + left) (row * n + stop) ys ≡ painted (strideOf z) (rowsOf z) (auxiliaryRow (V2 W) w row left stop) (auxiliarySource (V2 W) k w vy vu vv) xs
+  v2-all-written W under by luma chroma own own′ stops is =
       let e = fits .even-left in
       let e′ = fits .even-right in
       let even-stop : stop % 2 ≡ 0 = omega arith in
-      let all : (c : ℕ) → c < stop → fed V2 (w .width) (w .height) row c ≡ true =
+      let all : (c : ℕ) → c < stop → fed (V2 W) (w .width) (w .height) row c ≡ true =
       λ c h. ⊎-elim
-      (λ o. v2-odd-holds (w .width) (w .height) row c o luma (omega arith))
-      (λ o. v2-even-holds (w .width) (w .height) row c o by chroma (omega (arith, odds-below-evens (w .width))))
+      (λ o. v2-odd-holds W (w .width) (w .height) row c o luma (omega arith))
+      (λ o. v2-even-holds W (w .width) (w .height) row c o by chroma (omega (arith, odds-below-evens W (w .width))))
       (parity c) in
-      area-written z xs row left stop (narrower fits low (omega arith) even-stop) n is-stride stop every _ every (auxiliarySource V2 k w vy vu vv) _ ys low (omega arith) is
+      area-written z xs row left stop (narrower fits low (omega arith) even-stop) n is-stride stop every _ every (auxiliarySource (V2 W) k w vy vu vv) _ ys low (omega arith) is
       (λ j h. refl)
       (λ j h t. ⊎-elim
-      (λ o. cond-true (odd j) _ _ (is-odd j o) ∙ v2-odd-part k w vy vu vv row at left stop j e even-stop h own o)
-      (λ o. cond-false (odd j) _ _ (not-odd j o) ∙ v2-even-part k w vy vu vv row under left stop j e even-stop h own′ o)
+      (λ o. cond-true (odd j) _ _ (is-odd j o) ∙ v2-odd-part W k w vy vu vv row at left stop j e even-stop h own o)
+      (λ o. cond-false (odd j) _ _ (not-odd j o) ∙ v2-even-part W k w vy vu vv row under left stop j e even-stop h own′ o)
       (parity j))
       (λ c l h t. (h, all c h))
       (λ c l h t. (h, refl))

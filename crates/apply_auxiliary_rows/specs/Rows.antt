@@ -31,7 +31,7 @@ abbrev pub viewSample : View → List ℕ → List ℕ → List ℕ → Spot →
 viewSample w vy vu vv s = partSample w vy vu vv (s .part) (s .row) (s .col)
 
 unfoldable pub auxiliarySource : Layout → Chroma → View → List ℕ → List ℕ → List ℕ → ℕ → ℕ → ℕ
-auxiliarySource t k w vy vu vv r c = viewSample w vy vu vv (maps t (w .width) .spot (place k r c))
+auxiliarySource t k w vy vu vv r c = viewSample w vy vu vv (maps t .spot (place k r c))
 
 abbrev pub auxiliaryRow : Layout → View → ℕ → ℕ → ℕ → ℕ → ℕ → Bool
 auxiliaryRow t w row left right = rowPart (fed t (w .width) (w .height) row) row left right

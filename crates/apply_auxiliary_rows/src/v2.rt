@@ -4,6 +4,7 @@
 // view's samples, and every other byte is as before. U and V go in one pass: a row of the view has U's samples in its first half and V's
 // in its second, and a sample is taken only where the view has it for both, so that the row's start and its last column are found once.
 // A row of the view that is absent ends the work that reads it, and no other: the luma part and the chroma part of a row are two works.
+// `wide` is W, and may be any number: whatever the rule that it comes from, what exists is taken.
 ghost use mathlib.Core.Path.{_≡_};
 ghost use mathlib.Core.List.{List};
 ghost use Prim.Native.Nat.{ℕ, _+_, _%_, _≤_};
@@ -24,6 +25,7 @@ fn v2_odds(
     u: &mut [u8],
     v: &mut [u8],
     size: Size,
+    wide: usize,
     w: View,
     vy: &[u8],
     row: usize,
@@ -34,18 +36,18 @@ fn v2_odds(
     requires { ⌜ AreaFits size (length (now v)) (row + 1) left right ⌝ }
     requires { ⌜ PlaneFits (lumaOf w) (length (now vy)) ⌝ }
     ensures u { λ _. ⌜ ((vu vv : List ℕ) → now (u .exit) ≡ painted (strideOf size) (rowsOf size)
-        (auxiliaryOnly odd V2 w row left right) (auxiliarySource V2 CU w (now (vy .entry)) vu vv) (now (u .entry))) ⌝ }
+        (auxiliaryOnly odd (V2 wide) w row left right) (auxiliarySource (V2 wide) CU w (now (vy .entry)) vu vv) (now (u .entry))) ⌝ }
     ensures v { λ _. ⌜ ((vu vv : List ℕ) → now (v .exit) ≡ painted (strideOf size) (rowsOf size)
-        (auxiliaryOnly odd V2 w row left right) (auxiliarySource V2 CV w (now (vy .entry)) vu vv) (now (v .entry))) ⌝ }
+        (auxiliaryOnly odd (V2 wide) w row left right) (auxiliarySource (V2 wide) CV w (now (vy .entry)) vu vv) (now (v .entry))) ⌝ }
 {
     let RowStart::At(at) = view::row_start(vy.len(), w.luma_stride, w.height as usize, row) else {
         return;
     };
-    let stop = lent::least(right, layout::v2_odds_below(w.width));
+    let stop = lent::least(right, layout::v2_odds_below(wide, w.width));
     if stop <= left {
         return;
     }
-    let half = at + layout::v2_width(w.width) / 2;
+    let half = at + wide / 2;
     let line = row * picture::stride(size);
     columns::put_odds(
         &mut u[line + left..line + stop],
@@ -62,6 +64,7 @@ fn v2_evens(
     u: &mut [u8],
     v: &mut [u8],
     size: Size,
+    wide: usize,
     w: View,
     vu: &[u8],
     vv: &[u8],
@@ -74,10 +77,10 @@ fn v2_evens(
     requires { ⌜ PlaneFits (chromaOf w) (length (now vu)) ⌝ }
     requires { ⌜ PlaneFits (chromaOf w) (length (now vv)) ⌝ }
     ensures u { λ _. ⌜ ((vy : List ℕ) → now (u .exit) ≡ painted (strideOf size) (rowsOf size)
-        (auxiliaryOnly even V2 w row left right) (auxiliarySource V2 CU w vy (now (vu .entry)) (now (vv .entry)))
+        (auxiliaryOnly even (V2 wide) w row left right) (auxiliarySource (V2 wide) CU w vy (now (vu .entry)) (now (vv .entry)))
         (now (u .entry))) ⌝ }
     ensures v { λ _. ⌜ ((vy : List ℕ) → now (v .exit) ≡ painted (strideOf size) (rowsOf size)
-        (auxiliaryOnly even V2 w row left right) (auxiliarySource V2 CV w vy (now (vu .entry)) (now (vv .entry)))
+        (auxiliaryOnly even (V2 wide) w row left right) (auxiliarySource (V2 wide) CV w vy (now (vu .entry)) (now (vv .entry)))
         (now (v .entry))) ⌝ }
 {
     if row % 2 != 1 {
@@ -87,11 +90,11 @@ fn v2_evens(
     let RowStart::At(at) = view::row_start(vu.len(), w.chroma_stride, high, row / 2) else {
         return;
     };
-    let stop = lent::least(right, layout::v2_evens_below(w.width));
+    let stop = lent::least(right, layout::v2_evens_below(wide, w.width));
     if stop <= left {
         return;
     }
-    let half = at + layout::v2_width(w.width) / 4;
+    let half = at + wide / 4;
     let from = left / 4;
     let to = (stop / 2 + 1) / 2;
     let line = row * picture::stride(size);
@@ -114,6 +117,7 @@ fn v2_together(
     u: &mut [u8],
     v: &mut [u8],
     size: Size,
+    wide: usize,
     w: View,
     vy: &[u8],
     vu: &[u8],
@@ -126,15 +130,15 @@ fn v2_together(
     requires { ⌜ AreaFits size (length (now v)) (row + 1) left right ⌝ }
     requires { ⌜ ViewFits w (length (now vy)) (length (now vu)) (length (now vv)) ⌝ }
     ensures { λ mid. ⌜ (left ≤ mid) × (mid ≤ right) × (mid % 2 ≡ 0) ⌝ }
-    ensures u { λ mid. ⌜ now (u .exit) ≡ painted (strideOf size) (rowsOf size) (auxiliaryRow V2 w row left mid)
-        (auxiliarySource V2 CU w (now (vy .entry)) (now (vu .entry)) (now (vv .entry))) (now (u .entry)) ⌝ }
-    ensures v { λ mid. ⌜ now (v .exit) ≡ painted (strideOf size) (rowsOf size) (auxiliaryRow V2 w row left mid)
-        (auxiliarySource V2 CV w (now (vy .entry)) (now (vu .entry)) (now (vv .entry))) (now (v .entry)) ⌝ }
+    ensures u { λ mid. ⌜ now (u .exit) ≡ painted (strideOf size) (rowsOf size) (auxiliaryRow (V2 wide) w row left mid)
+        (auxiliarySource (V2 wide) CU w (now (vy .entry)) (now (vu .entry)) (now (vv .entry))) (now (u .entry)) ⌝ }
+    ensures v { λ mid. ⌜ now (v .exit) ≡ painted (strideOf size) (rowsOf size) (auxiliaryRow (V2 wide) w row left mid)
+        (auxiliarySource (V2 wide) CV w (now (vy .entry)) (now (vu .entry)) (now (vv .entry))) (now (v .entry)) ⌝ }
 {
     if row % 2 == 0 {
         return left;
     }
-    let stop = lent::least(right, layout::v2_odds_below(w.width));
+    let stop = lent::least(right, layout::v2_odds_below(wide, w.width));
     if stop <= left {
         return left;
     }
@@ -145,7 +149,6 @@ fn v2_together(
     let RowStart::At(chroma) = view::row_start(vu.len(), w.chroma_stride, high, row / 2) else {
         return left;
     };
-    let wide = layout::v2_width(w.width);
     let half = luma + wide / 2;
     let quarter = chroma + wide / 4;
     let from = left / 4;
@@ -173,6 +176,7 @@ pub fn v2_row(
     u: &mut [u8],
     v: &mut [u8],
     size: Size,
+    wide: usize,
     w: View,
     vy: &[u8],
     vu: &[u8],
@@ -184,12 +188,12 @@ pub fn v2_row(
     requires { ⌜ AreaFits size (length (now u)) (row + 1) left right ⌝ }
     requires { ⌜ AreaFits size (length (now v)) (row + 1) left right ⌝ }
     requires { ⌜ ViewFits w (length (now vy)) (length (now vu)) (length (now vv)) ⌝ }
-    ensures u { λ _. ⌜ now (u .exit) ≡ painted (strideOf size) (rowsOf size) (auxiliaryRow V2 w row left right)
-        (auxiliarySource V2 CU w (now (vy .entry)) (now (vu .entry)) (now (vv .entry))) (now (u .entry)) ⌝ }
-    ensures v { λ _. ⌜ now (v .exit) ≡ painted (strideOf size) (rowsOf size) (auxiliaryRow V2 w row left right)
-        (auxiliarySource V2 CV w (now (vy .entry)) (now (vu .entry)) (now (vv .entry))) (now (v .entry)) ⌝ }
+    ensures u { λ _. ⌜ now (u .exit) ≡ painted (strideOf size) (rowsOf size) (auxiliaryRow (V2 wide) w row left right)
+        (auxiliarySource (V2 wide) CU w (now (vy .entry)) (now (vu .entry)) (now (vv .entry))) (now (u .entry)) ⌝ }
+    ensures v { λ _. ⌜ now (v .exit) ≡ painted (strideOf size) (rowsOf size) (auxiliaryRow (V2 wide) w row left right)
+        (auxiliarySource (V2 wide) CV w (now (vy .entry)) (now (vu .entry)) (now (vv .entry))) (now (v .entry)) ⌝ }
 {
-    let mid = v2_together(u, v, size, w, vy, vu, vv, row, left, right);
-    v2_odds(u, v, size, w, vy, row, mid, right);
-    v2_evens(u, v, size, w, vu, vv, row, mid, right);
+    let mid = v2_together(u, v, size, wide, w, vy, vu, vv, row, left, right);
+    v2_odds(u, v, size, wide, w, vy, row, mid, right);
+    v2_evens(u, v, size, wide, w, vu, vv, row, mid, right);
 }

@@ -1,5 +1,7 @@
 // The numbers worked by hand that are not marked P (docs/RULES.md, R131 to R134): each is run through the public functions, and the file
 // `stdout` beside src/ was written by hand from the rules.
+use layout::Way;
+use layout::WidthRule;
 use libc::STDOUT_FILENO;
 use picture::Size;
 use view::View;
@@ -181,27 +183,26 @@ fn v1_16x12() {
     io::write_all(STDOUT_FILENO, b"\n");
 }
 
-// An auxiliary view of 20x4 ones, layout V2, goes into a picture of zeros as large, one rectangle covering it: the columns of row 0.
-fn v2_width_20() {
-    let mut y = [0u8; 512];
-    let mut u = [0u8; 512];
-    let mut v = [0u8; 512];
-    let size = Size {
-        width: 20,
-        height: 4,
-    };
+// An auxiliary view of ones, layout V2, goes by a rule of its width into a picture of zeros as large, 4 high and at most 48 wide, one
+// rectangle covering it: the columns of row 0.
+fn v2_columns(title: &[u8], rule: WidthRule, width: u16)
+    requires { ⌜ width ≤ 48 ⌝ }
+{
+    let mut y = [0u8; 768];
+    let mut u = [0u8; 768];
+    let mut v = [0u8; 768];
     let w = View {
-        width: 20,
+        width,
         height: 4,
-        luma_stride: 20,
-        chroma_stride: 10,
+        luma_stride: 48,
+        chroma_stride: 24,
     };
-    let luma = [1u8; 80];
-    let chroma = [1u8; 20];
-    let rect = [0u16, 0, 20, 4];
+    let luma = [1u8; 192];
+    let chroma = [1u8; 48];
+    let rect = [0u16, 0, width, 4];
     apply_auxiliary::apply_auxiliary_view(
-        layout::Layout::V2,
-        size,
+        layout::layout_of(Way::AsV2(rule), width, width),
+        Size { width, height: 4 },
         &mut y,
         &mut u,
         &mut v,
@@ -211,10 +212,11 @@ fn v2_width_20() {
         &chroma,
         &chroma,
     );
-    io::write_all(STDOUT_FILENO, b"V2, view width 20: U columns");
-    places(&u[0..32]);
+    io::write_all(STDOUT_FILENO, title);
+    io::write_all(STDOUT_FILENO, b": U columns");
+    places(&u[0..lent::round_up_16(width)]);
     io::write_all(STDOUT_FILENO, b", V columns");
-    places(&v[0..32]);
+    places(&v[0..lent::round_up_16(width)]);
     io::write_all(STDOUT_FILENO, b"\n");
 }
 
@@ -234,5 +236,6 @@ fn main() {
     let low = [0u16, 0, 2, 6];
     rectangle(&low, 0);
     v1_16x12();
-    v2_width_20();
+    v2_columns(b"V2, view width 20", WidthRule::To16, 20);
+    v2_columns(b"V2, view width 48, by the 32 rule", WidthRule::To32, 48);
 }

@@ -2,6 +2,8 @@
 // written, and both layouts onto two earlier pictures. Every sample and every byte of a part is a letter, so a part is printed as it stands,
 // between brackets.
 // The file `stdout` beside src/ was written by hand from the rules (docs/RULES.md).
+use layout::Way;
+use layout::WidthRule;
 use libc::STDOUT_FILENO;
 use picture::Size;
 use view::View;
@@ -105,17 +107,17 @@ fn plane(name: &[u8], s: &[u8])
     text(b"\n");
 }
 
-// A 5x5 picture of Y, U and V goes by V1 onto one earlier picture of dots and by V2 onto another, over a list.
-fn both(rects: &[u16]) {
+// A 5x5 picture of Y, U and V goes as V1 onto one earlier picture of dots and as V2, by a rule, onto another, over a list.
+fn both(title: &[u8], rule: WidthRule, rects: &[u16]) {
     let y = [b'Y'; 256];
     let u = [b'U'; 256];
     let v = [b'V'; 256];
-    let mut main_y = [b'.'; 256];
-    let mut main_u = [b'.'; 64];
-    let mut main_v = [b'.'; 64];
-    let mut auxiliary_y = [b'.'; 256];
-    let mut auxiliary_u = [b'.'; 64];
-    let mut auxiliary_v = [b'.'; 64];
+    let mut main_y = [b'.'; 512];
+    let mut main_u = [b'.'; 128];
+    let mut main_v = [b'.'; 128];
+    let mut auxiliary_y = [b'.'; 512];
+    let mut auxiliary_u = [b'.'; 128];
+    let mut auxiliary_v = [b'.'; 128];
     let mut first_y = [b'.'; 256];
     let mut first_u = [b'.'; 256];
     let mut first_v = [b'.'; 256];
@@ -123,6 +125,8 @@ fn both(rects: &[u16]) {
     let mut second_u = [b'.'; 256];
     let mut second_v = [b'.'; 256];
     let answer = agree::both(
+        Way::AsV1,
+        Way::AsV2(rule),
         Size {
             width: 5,
             height: 5,
@@ -144,7 +148,7 @@ fn both(rects: &[u16]) {
         &mut second_u,
         &mut second_v,
     );
-    text(b"both layouts: ");
+    text(title);
     number(answer.number);
     text(b"\n");
     plane(b"V1, Y:", &first_y);
@@ -185,7 +189,12 @@ fn main() {
     );
     read_write(b"abc\xc0", &mut again);
     read_write(payload, &mut again[0..41]);
-    both(&[3, 0, 4, 2]);
-    both(&[5, 0, 5, 4]);
-    both(&[3, 0, 4, 2, 9]);
+    both(b"both layouts: ", WidthRule::To16, &[3, 0, 4, 2]);
+    both(b"both layouts: ", WidthRule::To16, &[5, 0, 5, 4]);
+    both(b"both layouts: ", WidthRule::To16, &[3, 0, 4, 2, 9]);
+    both(
+        b"both layouts, V2 by the 32 rule: ",
+        WidthRule::To32,
+        &[3, 0, 4, 2],
+    );
 }

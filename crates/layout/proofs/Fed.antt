@@ -6,13 +6,14 @@ use native.Mathlib.Omega.{arith}
 use mathlib.Core.Path.{_≡_, refl, sym, ap, _∙_}
 use mathlib.Core.Bool.{true}
 use mathlib.Core.Logic.{_⊎_, ⊎-elim}
-use Rattle.layout.specs.Maps.{Maps, maps, v2WidthOf, Part, PY, PU, PV, Place, place, spot, toMain, partOf, shift, into, upperOf, toV1, fromV1, toV2, fromV2, mapsV1, mapsV2}
+use Rattle.layout.specs.Maps.{Maps, maps, wideOf, layoutOf, viewWideOf, Part, PY, PU, PV, Place, place, spot, toMain, partOf, shift, into, upperOf, toV1, fromV1, toV2, fromV2, mapsV1, mapsV2}
 use Rattle.layout.specs.Exists.{present, carried}
 use Rattle.layout.specs.Fed.{Fed, FedOnce, BlockFed, besideOf, belowOf, acrossOf}
 use Rattle.layout.specs.declared.Chroma.{Chroma}
 use Rattle.layout.specs.declared.Chroma.the-variants.{CU, CV}
-use Rattle.layout.specs.declared.Layout.{Layout}
-use Rattle.layout.specs.declared.Layout.the-variants.{V1, V2}
+use Rattle.layout.specs.declared.Way.{Way}
+use Rattle.layout.specs.declared.Way.the-variants.{AsV1, AsV2}
+use Rattle.layout.specs.declared.WidthRule.the-variants.{To16, To32}
 use Rattle.layout.proofs.Halves.{shift-le, half-at, half-back, into-less}
 use Rattle.layout.proofs.Exists.{parity, odd-test, even-test, fourth-test, between-test, fours, leftOut-facts, leftOut-row, leftOut-col, present-facts, present-holds, carried-facts, carried-holds, side-chroma, side-turn}
 
@@ -153,11 +154,12 @@ module _ (W H : ℕ) (w4 : W % 4 ≡ 0) (h2 : H % 2 ≡ 0) where
     redone = λ s. v2-redone (s .part) (s .row) (s .col);
   }
 
--- ---- both layouts, at the sizes of a padded picture; for V2 its width is W
+-- ---- both layouts, at the sizes of a view that a split makes; for V2 its width is W
 
-pub maps-fed : (t : Layout) (W H : ℕ) → W % 16 ≡ 0 → H % 16 ≡ 0 → Fed (maps t W) W H
-maps-fed V1 W H w h = v1-fed W H (omega arith) h
-maps-fed V2 W H w h = let same : v2WidthOf W ≡ W = omega arith in rw same (v2-fed W H (omega arith) (omega arith))
+pub maps-fed : (t : Way) (pw stride H : ℕ) → stride % 16 ≡ 0 → H % 16 ≡ 0 → let l = layoutOf t pw stride in Fed (maps l) (viewWideOf l stride) H
+maps-fed AsV1 pw stride H w h = v1-fed stride H (omega arith) h
+maps-fed (AsV2 To16) pw stride H w h = v2-fed (wideOf To16 pw stride) H (omega arith) (omega arith)
+maps-fed (AsV2 To32) pw stride H w h = v2-fed (wideOf To32 pw stride) H (omega arith) (omega arith)
 
 -- ---- each place of a block is fed once, by any layout that is `Fed`
 

@@ -10,7 +10,7 @@ use Prim.Native.Nat.{ℕ, _*_, _-_, _/_, _%_}
 use mathlib.Core.Bool.{Bool, _&&_, _||_}
 use lib.Dec.{ltb, eqb}
 use Rattle.lent.specs.Sizes.{halfUp}
-use Rattle.layout.specs.Maps.{Part, PY, PU, PV, Place, Spot, Maps, place, maps, v2WidthOf}
+use Rattle.layout.specs.Maps.{Part, PY, PU, PV, Place, Spot, Maps, place, maps}
 use Rattle.layout.specs.declared.Chroma.the-variants.{CU, CV}
 use Rattle.layout.specs.declared.Layout.{Layout}
 
@@ -33,11 +33,11 @@ abbrev pub gives : Maps → ℕ → ℕ → ℕ → ℕ → Bool
 gives m vw vh r c = leftOut r c && present vw vh (m .spot (place CU r c)) && present vw vh (m .spot (place CV r c))
 
 unfoldable pub fed : Layout → ℕ → ℕ → ℕ → ℕ → Bool
-fed t vw vh = gives (maps t vw) vw vh
+fed t vw vh = gives (maps t) vw vh
 
 -- V2: both samples of an odd column exist exactly below this column, those of an even column of an odd row exactly below that one
-abbrev pub v2OddsBelowOf : ℕ → ℕ
-v2OddsBelowOf vw = 2 * (vw - v2WidthOf vw / 2)
+abbrev pub v2OddsBelowOf : ℕ → ℕ → ℕ
+v2OddsBelowOf W vw = 2 * (vw - W / 2)
 
-abbrev pub v2EvensBelowOf : ℕ → ℕ
-v2EvensBelowOf vw = 4 * (halfUp vw - v2WidthOf vw / 4)
+abbrev pub v2EvensBelowOf : ℕ → ℕ → ℕ
+v2EvensBelowOf W vw = 4 * (halfUp vw - W / 4)

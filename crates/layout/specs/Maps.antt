@@ -1,7 +1,9 @@
 -- The two maps of each layout between the chroma of the picture and the auxiliary view: MS-RDPEGFX 3.3.8.3.2 (V1) and 3.3.8.3.3 (V2),
--- as R63, R65 to R69 and R82 give them. All halves and quarters are floor.
+-- as R63, R65 to R69, R72 and R82 give them. All halves and quarters are floor.
 --
---   Chroma, Layout     which chroma plane of the picture, CU or CV; V1 or V2
+--   Chroma             which chroma plane of the picture, CU or CV
+--   Layout             V1, or V2 W, V2 with the width W that is halved and quartered
+--   WidthRule, Way     how V2's W is found, To16 or To32; how a picture is sent, AsV1 or AsV2 by such a rule
 --   Part               a plane of a view: PY, PU or PV
 --   Place              a sample of the picture's chroma: plane, row and column
 --   Spot               a sample of a view: plane, row and column
@@ -12,7 +14,10 @@
 --   toMain, fromMain   where the even-even sample of a block lives in the main view, and whose sample a spot of its chroma holds
 --   toV1, toV2 W       where a place lives in the auxiliary view: an apply call reads there
 --   fromV1, fromV2 W   whose sample a spot of the auxiliary view holds: a split writes it there
---   Maps               the two of a layout; `maps t vw` those of the layout t, for a view of width vw
+--   Maps               the two of a layout; `maps t` those of the layout t
+--   wideOf rule pw vw  W by a rule, for a picture of width pw and a view of width vw
+--   layoutOf t pw vw   the layout of such a view that was sent this way
+--   viewWideOf t stride        how wide the views of a split are, in the layout t
 use Prim.Native.Nat.{ℕ, _+_, _*_, _-_, _/_, _%_}
 use mathlib.Core.Bool.{cond}
 use lib.Dec.{ltb, eqb}
@@ -21,6 +26,10 @@ use Rattle.layout.specs.declared.Chroma.{Chroma}
 use Rattle.layout.specs.declared.Chroma.the-variants.{CU, CV}
 use Rattle.layout.specs.declared.Layout.{Layout}
 use Rattle.layout.specs.declared.Layout.the-variants.{V1, V2}
+use Rattle.layout.specs.declared.Way.{Way}
+use Rattle.layout.specs.declared.Way.the-variants.{AsV1, AsV2}
+use Rattle.layout.specs.declared.WidthRule.{WidthRule}
+use Rattle.layout.specs.declared.WidthRule.the-variants.{To16, To32}
 
 pub data Part : Type 0 where
   PY PU PV : Part
@@ -103,10 +112,21 @@ mapsV1 = record { spot = λ l. toV1 (l .plane) (l .row) (l .col); place = λ s. 
 abbrev pub mapsV2 : ℕ → Maps
 mapsV2 W = record { spot = λ l. toV2 W (l .plane) (l .row) (l .col); place = λ s. fromV2 W (s .part) (s .row) (s .col) }
 
--- "W = vw rounded up to 16"
-abbrev pub v2WidthOf : ℕ → ℕ
-v2WidthOf vw = roundUp 16 vw
+-- W, for a picture of width pw and a view of width vw. The 16 rule: "W = vw rounded up to 16". The 32 rule: "W is the picture's width
+-- rounded up to 32 .. in place of the view's width rounded up"
+abbrev pub wideOf : WidthRule → ℕ → ℕ → ℕ
+wideOf To16 pw vw = roundUp 16 vw
+wideOf To32 pw vw = roundUp 32 pw
 
-abbrev pub maps : Layout → ℕ → Maps
-maps V1 vw = mapsV1
-maps V2 vw = mapsV2 (v2WidthOf vw)
+abbrev pub layoutOf : Way → ℕ → ℕ → Layout
+layoutOf AsV1 pw vw = V1
+layoutOf (AsV2 rule) pw vw = V2 (wideOf rule pw vw)
+
+-- how wide the views of a split are: W, and for V1 the stride
+abbrev pub viewWideOf : Layout → ℕ → ℕ
+viewWideOf V1 stride = stride
+viewWideOf (V2 W) stride = W
+
+abbrev pub maps : Layout → Maps
+maps V1 = mapsV1
+maps (V2 W) = mapsV2 W

@@ -5,7 +5,8 @@
 // for V1 and V2 by one record (specs/Fed.antt). The functions below are the numbers that the code above takes from the maps.
 ghost use mathlib.Core.Path.{_≡_};
 ghost use Prim.Native.Nat.{_+_, _*_, _/_, _%_, _<_};
-ghost use Rattle.layout.specs.Maps.{upperOf, v2WidthOf};
+ghost use Rattle.lent.specs.Sizes.{roundUp};
+ghost use Rattle.layout.specs.Maps.{upperOf, wideOf, layoutOf};
 ghost use Rattle.layout.specs.Exists.{v2OddsBelowOf, v2EvensBelowOf};
 
 // Which chroma plane of the picture.
@@ -14,10 +15,22 @@ pub enum Chroma {
     CV,
 }
 
-// How the auxiliary view is laid out (the Rust's Avc444Layout).
+// How V2 finds its W: the view's width rounded up to 16, or the picture's rounded up to 32.
+pub enum WidthRule {
+    To16,
+    To32,
+}
+
+// Where an auxiliary view keeps the picture's chroma: V1, or V2 with its W, the width that is halved and quartered between U and V.
 pub enum Layout {
     V1,
-    V2,
+    V2(usize),
+}
+
+// How a picture is sent: as V1, or as V2 by a rule (the Rust's Avc444Layout, whose V2 goes by the 16 rule).
+pub enum Way {
+    AsV1,
+    AsV2(WidthRule),
 }
 
 // V1: the luma row of the auxiliary view that has U of an odd row of the picture; V is 8 rows below (apply_auxiliary_v1, split).
@@ -27,33 +40,53 @@ pub fn upper(row: usize) -> usize
     row - row % 16 + row % 16 / 2
 }
 
-// V2: W, the width that is halved and quartered between U and V (apply_auxiliary_v2).
-pub fn v2_width(vw: u16) -> usize
-    ensures { λ r. ⌜ r ≡ v2WidthOf vw ⌝ }
+// A width rounded up to two macroblocks.
+pub fn round_up_32(n: u16) -> usize
+    ensures { λ r. ⌜ r ≡ roundUp 32 n ⌝ }
 {
-    lent::round_up_16(vw)
+    (n as usize + 31) / 32 * 32
+}
+
+// V2: W, for a picture of width pw and a view of width vw (by the 16 rule as in apply_auxiliary_v2).
+pub fn v2_width(rule: WidthRule, pw: u16, vw: u16) -> usize
+    ensures { λ r. ⌜ r ≡ wideOf rule pw vw ⌝ }
+{
+    match rule {
+        WidthRule::To16 => lent::round_up_16(vw),
+        WidthRule::To32 => round_up_32(pw),
+    }
+}
+
+// The layout of a view of width vw that was sent this way, for a picture of width pw.
+pub fn layout_of(way: Way, pw: u16, vw: u16) -> Layout
+    ensures { λ r. ⌜ r ≡ layoutOf way pw vw ⌝ }
+{
+    match way {
+        Way::AsV1 => Layout::V1,
+        Way::AsV2(rule) => Layout::V2(v2_width(rule, pw, vw)),
+    }
 }
 
 // V2: both samples of an odd column exist exactly below this column.
-pub fn v2_odds_below(vw: u16) -> usize
-    ensures { λ r. ⌜ r ≡ v2OddsBelowOf vw ⌝ }
+pub fn v2_odds_below(wide: usize, vw: u16) -> usize
+    ensures { λ r. ⌜ r ≡ v2OddsBelowOf wide vw ⌝ }
 {
-    let wide = vw as usize;
-    let half = v2_width(vw) / 2;
-    if wide < half {
+    let there = vw as usize;
+    let half = wide / 2;
+    if there < half {
         return 0;
     }
-    2 * (wide - half)
+    2 * (there - half)
 }
 
 // V2: both samples of an even column of an odd row exist exactly below this column.
-pub fn v2_evens_below(vw: u16) -> usize
-    ensures { λ r. ⌜ r ≡ v2EvensBelowOf vw ⌝ }
+pub fn v2_evens_below(wide: usize, vw: u16) -> usize
+    ensures { λ r. ⌜ r ≡ v2EvensBelowOf wide vw ⌝ }
 {
-    let wide = lent::half_up(vw);
-    let quarter = v2_width(vw) / 4;
-    if wide < quarter {
+    let there = lent::half_up(vw);
+    let quarter = wide / 4;
+    if there < quarter {
         return 0;
     }
-    4 * (wide - quarter)
+    4 * (there - quarter)
 }

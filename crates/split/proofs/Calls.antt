@@ -11,47 +11,56 @@ use Rattle.lent.proofs.Exactly.{nor}
 use Rattle.picture.specs.declared.Size.{Size}
 use Rattle.picture.specs.Sizes.{strideOf, rowsOf}
 use Rattle.picture.proofs.Sizes.{planes-fit}
-use Rattle.layout.specs.declared.Layout.{Layout}
+use Rattle.layout.specs.declared.Way.{Way}
+use Rattle.layout.specs.declared.Way.the-variants.{AsV1, AsV2}
+use Rattle.layout.specs.declared.WidthRule.the-variants.{To16, To32}
 use Rattle.split.specs.declared.number.PlaneLengths.{PlaneLengths}
 use Rattle.split.specs.declared.number.Views.{Views}
 use Rattle.split.proofs.Exactly.{split-0-exactly}
 use Rattle.split.proofs.Short.{view-room}
-use Rattle.split.specs.Split.{Planes, lengthsOf, mainSample, auxiliarySample, viewShort, splitNumberOf, splitAnswerOf, splitBuffersOf, Written, SplitOutcome}
-use Rattle.split_views.specs.Fits.{MacroblocksFit}
+use Rattle.split.specs.Split.{Planes, lengthsOf, splitLayoutOf, splitWideOf, mainSample, auxiliarySample, viewShort, splitNumberOf, splitAnswerOf, splitBuffersOf, Written, SplitOutcome}
+use Rattle.split_views.specs.Fits.{MacroblocksFit, WideEnough}
 use Rattle.split.specs.Accepted.{SplitAccepted}
 
 whole-plane : (z : Size) {n : ℕ} → rowsOf z * strideOf z ≤ n → MacroblocksFit n (strideOf z) (rowsOf z)
 whole-plane z fits = record { fits = fits; wide = omega arith; high = omega arith }
 
-pub accepted : (z : Size) (p m a : PlaneLengths) → splitNumberOf z p m a ≡ 0 → SplitAccepted z p m a
-accepted z p m a e =
-    let f = split-0-exactly z p m a .0 e in
+-- the views have room for the picture's columns, whatever the way
+pub wide-enough : (t : Way) (z : Size) → WideEnough (strideOf z) (splitWideOf t z)
+wide-enough AsV1 z = record { enough = omega arith; fours = omega arith }
+wide-enough (AsV2 To16) z = record { enough = omega arith; fours = omega arith }
+wide-enough (AsV2 To32) z = record { enough = omega arith; fours = omega arith }
+
+pub accepted : (t : Way) (z : Size) (p m a : PlaneLengths) → splitNumberOf t z p m a ≡ 0 → SplitAccepted t z p m a
+accepted t z p m a e =
+    let f = split-0-exactly t z p m a .0 e in
     let fit = planes-fit z (p .y) (p .u) (p .v) (f .0) in
-    let out = nor (viewShort z m) (viewShort z a) .0 (f .1 .1) in
+    let out = nor (viewShort (splitWideOf t z) z m) (viewShort (splitWideOf t z) z a) .0 (f .1 .1) in
     record {
       y-whole = whole-plane z (fit .y-fits);
       u-whole = whole-plane z (fit .u-fits);
       v-whole = whole-plane z (fit .v-fits);
-      main-room = view-room z m (out .0);
-      auxiliary-room = view-room z a (out .1);
+      main-room = view-room (splitWideOf t z) z m (out .0);
+      auxiliary-room = view-room (splitWideOf t z) z a (out .1);
       small = f .1 .0;
     }
 
-module _ (t : Layout) (z : Size) (p m a : Planes) {n : ℕ} {r : Views} (is : n ≡ splitNumberOf z (lengthsOf p) (lengthsOf m) (lengthsOf a)) where
-  pub refused : (n ≡ 0 → ⊥) → r ≡ splitAnswerOf z n → SplitOutcome t z p m a r (m .y ∷ m .u ∷ m .v ∷ a .y ∷ a .u ∷ a .v ∷ [])
+module _ (t : Way) (z : Size) (p m a : Planes) {n : ℕ} {r : Views} (is : n ≡ splitNumberOf t z (lengthsOf p) (lengthsOf m) (lengthsOf a)) where
+  pub refused : (n ≡ 0 → ⊥) → r ≡ splitAnswerOf t z n → SplitOutcome t z p m a r (m .y ∷ m .u ∷ m .v ∷ a .y ∷ a .u ∷ a .v ∷ [])
   unfolding splitBuffersOf
   refused some answered =
-      let no : eqb (splitNumberOf z (lengthsOf p) (lengthsOf m) (lengthsOf a)) 0 ≡ false = ne-eqb _ 0 (λ e. some (is ∙ e)) in
-      record { answer = answered ∙ ap (splitAnswerOf z) is; buffers = rw no refl }
+      let no : eqb (splitNumberOf t z (lengthsOf p) (lengthsOf m) (lengthsOf a)) 0 ≡ false = ne-eqb _ 0 (λ e. some (is ∙ e)) in
+      record { answer = answered ∙ ap (splitAnswerOf t z) is; buffers = rw no refl }
 
-  pub done : {m′ a′ : Planes} → n ≡ 0 → r ≡ splitAnswerOf z 0
-      → Written (strideOf z) (rowsOf z) (mainSample (strideOf z) p) m m′ → Written (strideOf z) (rowsOf z) (auxiliarySample t (strideOf z) (p .u) (p .v)) a a′
+  pub done : {m′ a′ : Planes} → n ≡ 0 → r ≡ splitAnswerOf t z 0
+      → Written (splitWideOf t z) (rowsOf z) (mainSample (strideOf z) p) m m′
+      → Written (splitWideOf t z) (rowsOf z) (auxiliarySample (splitLayoutOf t z) (strideOf z) (p .u) (p .v)) a a′
       → SplitOutcome t z p m a r (m′ .y ∷ m′ .u ∷ m′ .v ∷ a′ .y ∷ a′ .u ∷ a′ .v ∷ [])
   unfolding splitBuffersOf
   done none answered w x =
-      let zero : splitNumberOf z (lengthsOf p) (lengthsOf m) (lengthsOf a) ≡ 0 = sym is ∙ none in
-      let yes : eqb (splitNumberOf z (lengthsOf p) (lengthsOf m) (lengthsOf a)) 0 ≡ true = eq-eqb _ 0 zero in
+      let zero : splitNumberOf t z (lengthsOf p) (lengthsOf m) (lengthsOf a) ≡ 0 = sym is ∙ none in
+      let yes : eqb (splitNumberOf t z (lengthsOf p) (lengthsOf m) (lengthsOf a)) 0 ≡ true = eq-eqb _ 0 zero in
       record {
-        answer = answered ∙ ap (splitAnswerOf z) (sym zero);
+        answer = answered ∙ ap (splitAnswerOf t z) (sym zero);
         buffers = rw yes (λ i. w .y-is i ∷ w .u-is i ∷ w .v-is i ∷ x .y-is i ∷ x .u-is i ∷ x .v-is i ∷ []);
       }

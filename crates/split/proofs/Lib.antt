@@ -3,3 +3,4 @@ pub mod Calls
 pub mod Ends
 pub mod Exactly
 pub mod Short
+pub mod Before

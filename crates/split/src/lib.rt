@@ -1,5 +1,5 @@
 // Both views of a picture: the main view, which any 4:2:0 decoder shows, and the auxiliary view with the chroma that the main view leaves
-// out, laid out as V1 or V2 (ports `Yuv444Frame::split`).
+// out, laid out as V1 or V2, by either rule of its width (ports `Yuv444Frame::split`, which has V2's 16 rule).
 //
 // A split promises its number, the views' sizes and every byte of the six outputs, for every size and every length (specs/Split.antt):
 // each plane of a view is written whole, no byte after it changes, and a refusal writes nothing. Number and sizes are found in `number`,
@@ -12,11 +12,11 @@ ghost use Rattle.split.specs.Split.{atEntry, SplitOutcome};
 pub use crate::number::PlaneLengths;
 pub use crate::number::Views;
 pub use crate::number::split_number;
-use layout::Layout;
+use layout::Way;
 
-// Both views of the picture, the auxiliary one in the layout that is asked for. Ports `Yuv444Frame::split`.
+// Both views of the picture, in the way that is asked for. Ports `Yuv444Frame::split`.
 pub fn split(
-    layout: Layout,
+    way: Way,
     size: picture::Size,
     y: &[u8],
     u: &[u8],
@@ -28,7 +28,7 @@ pub fn split(
     auxiliary_u: &mut [u8],
     auxiliary_v: &mut [u8],
 ) -> Views
-    ensures { λ r. ⌜ SplitOutcome layout size (atEntry y u v)
+    ensures { λ r. ⌜ SplitOutcome way size (atEntry y u v)
         (atEntry «main_y» «main_u» «main_v») (atEntry «auxiliary_y» «auxiliary_u» «auxiliary_v») r
         (now («main_y» .exit) ∷ now («main_u» .exit) ∷ now («main_v» .exit)
         ∷ now («auxiliary_y» .exit) ∷ now («auxiliary_u» .exit) ∷ now («auxiliary_v» .exit) ∷ []) ⌝ }
@@ -48,12 +48,12 @@ pub fn split(
         u: auxiliary_u.len(),
         v: auxiliary_v.len(),
     };
-    let number = split_number(size, from, main, auxiliary);
+    let number = split_number(way, size, from, main, auxiliary);
     if number != 0 {
-        return crate::number::split_answer(size, number);
+        return crate::number::split_answer(way, size, number);
     }
     crate::both::both_views(
-        layout,
+        way,
         size,
         y,
         u,
@@ -65,5 +65,5 @@ pub fn split(
         auxiliary_u,
         auxiliary_v,
     );
-    crate::number::split_answer(size, 0)
+    crate::number::split_answer(way, size, 0)
 }

@@ -13,13 +13,14 @@ use lib.Seq.{getD-take, getD-drop, length-take-le}
 use borrow.Author.Tests.{lt-ltb, le-ltb}
 use Rattle.lent.specs.Paint.{paint, painted, every, whole}
 use Rattle.lent.specs.Samples.{sample}
-use Rattle.lent.proofs.Bools.{split, cond-true}
+use Rattle.lent.proofs.Bools.{split, cond-true, cond-false}
 use Rattle.lent.proofs.Paint.{length-paint, getD-paint, paint-is, paint-ext}
 use Rattle.lent.proofs.SoFar.{SoFar, so-far-none, so-far-all}
 use Rattle.lent.proofs.Painted.{painted-ext}
 use Rattle.lent.proofs.Samples.{part-sample}
 use Rattle.lent.proofs.Parts.{part-length, part-before, part-in, part-after}
 use Rattle.split_rows.specs.Pairs.{pairOf}
+use Rattle.split_rows.specs.Seen.{seen}
 
 -- the whole row `row` of a plane, as it is lent to be read
 abbrev pub rowOf : List ℕ → ℕ → ℕ → List ℕ
@@ -93,15 +94,35 @@ picked-more step stride row first plane xs was ys a e low ordered fits before is
     let next : a + j + 1 ≤ e = omega arith in
     part-sample plane stride row (row * stride) (step * a) (step * e) (step * j + first) refl (omega (arith, mul-le-mul-left step next, mul-add step (a + j) 1)) ∙ ap (sample plane stride row) at)
 
--- two halves of n, lent one after the other and painted from f and from g, are the whole row
-pub two-halves : (xs ys zs : List ℕ) (n e : ℕ) (f g s : ℕ → ℕ) → length xs ≡ e → e ≡ n + n
+-- the bytes below n and those from n to e, lent one after the other and painted from f and from g, are the whole row
+pub two-parts : (xs ys zs : List ℕ) (n e : ℕ) (f g s : ℕ → ℕ) → length xs ≡ e → n ≤ e
     → ys ≡ paint every f (take (n - 0) (drop 0 xs))
     → zs ≡ paint every g (take (e - n) (drop n (take 0 xs ++ (ys ++ drop (n - 0) (drop 0 xs)))))
-    → ((j : ℕ) → j < n → f j ≡ s j) → ((j : ℕ) → j < n → g j ≡ s (n + j))
+    → ((j : ℕ) → j < n → f j ≡ s j) → ((j : ℕ) → n + j < e → g j ≡ s (n + j))
     → take n (take 0 xs ++ (ys ++ drop (n - 0) (drop 0 xs))) ++ (zs ++ drop (e - n) (drop n (take 0 xs ++ (ys ++ drop (n - 0) (drop 0 xs))))) ≡ paint every s xs
-two-halves xs ys zs n e f g s long twice is is′ first second =
+two-parts xs ys zs n e f g s long less is is′ first second =
     let left = chunk-more xs xs ys 0 n f s (omega arith) (omega arith) (so-far-none s xs) is (λ j h. first j (omega arith) ∙ ap s (omega arith)) in
-    so-far-all s xs e (chunk-more xs _ zs n e g s (omega arith) (omega arith) left is′ (λ j h. second j (omega arith))) (omega arith)
+    so-far-all s xs e (chunk-more xs _ zs n e g s less (omega arith) left is′ (λ j h. second j (omega arith))) (omega arith)
+
+-- what is seen of a plane: its samples below the stride, and `fill` past it
+module _ (fill : ℕ) (plane : List ℕ) (stride row c : ℕ) where
+  pub seen-inside : c < stride → sample plane stride row c ≡ seen fill plane stride row c
+  unfolding seen
+  seen-inside h = sym (cond-true (ltb c stride) _ fill (lt-ltb c stride h))
+
+  seen-past : stride ≤ c → fill ≡ seen fill plane stride row c
+  unfolding seen
+  seen-past h = sym (cond-false (ltb c stride) _ fill (le-ltb c stride h))
+
+-- a row that goes on: byte k is the sample at column `at k`, below the stride for the first n, and `fill` past it
+pub row-goes-on : (fill : ℕ) (plane : List ℕ) (stride row : ℕ) (at : ℕ → ℕ) (xs ys zs : List ℕ) (n e : ℕ) → length xs ≡ e → n ≤ e
+    → ((j : ℕ) → j < n → at j < stride) → ((j : ℕ) → stride ≤ at (n + j))
+    → ys ≡ paint every (λ k. sample plane stride row (at k)) (take (n - 0) (drop 0 xs))
+    → zs ≡ paint every (λ k. fill) (take (e - n) (drop n (take 0 xs ++ (ys ++ drop (n - 0) (drop 0 xs)))))
+    → take n (take 0 xs ++ (ys ++ drop (n - 0) (drop 0 xs))) ++ (zs ++ drop (e - n) (drop n (take 0 xs ++ (ys ++ drop (n - 0) (drop 0 xs)))))
+    ≡ paint every (λ k. seen fill plane stride row (at k)) xs
+row-goes-on fill plane stride row at xs ys zs n e long less below past is is′ =
+    two-parts xs ys zs n e _ _ _ long less is is′ (λ j h. seen-inside fill plane stride row (at j) (below j h)) (λ j h. seen-past fill plane stride row (at (n + j)) (past j))
 
 -- every second byte of every second byte is every fourth one
 pub fourths-twice : (src z dst : List ℕ) (first : ℕ) → 2 * length dst ≤ length z → first < 4

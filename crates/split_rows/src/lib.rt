@@ -3,14 +3,18 @@
 // Each writer promises every byte of the row that it is lent: the sample of the picture that belongs there. A row goes by parts of 64
 // bytes. Every second byte of a whole part goes through 64 pairs, which the compiler turns into vector code and keeps in registers, since
 // it knows their number; every fourth byte is every second one twice. What is left at the row's end is read byte by byte.
+//
+// A view may be wider than the picture's planes: its rows then go on with one byte. What the 32 rule adds to a row, to half of one and to a
+// quarter is filled in a place of its own, where the compiler knows how many bytes it is and makes no call for them.
 ghost use mathlib.Core.Path.{_≡_};
 ghost use Prim.Native.Nat.{_+_, _*_, _/_, _%_, _<_, _≤_};
 ghost use lib.Dec.{ltb};
 ghost use lib.ListN.{length, getD};
 ghost use Rattle.lent.specs.Paint.{paint, every};
 ghost use Rattle.lent.specs.Samples.{sample};
+ghost use Rattle.split_rows.specs.Seen.{seen};
 ghost use Rattle.split_rows.specs.Pairs.{pairOf};
-ghost use Rattle.split_rows.specs.Fits.{StepsFit};
+ghost use Rattle.split_rows.specs.Fits.{StepsFit, WideFits};
 
 // out becomes row `row` of the plane.
 pub fn copy_row(out: &mut [u8], plane: &[u8], stride: usize, row: usize)
@@ -137,7 +141,7 @@ fn fourths_part(dst: &mut [u8], src: &[u8], first: usize)
 }
 
 // out becomes every second sample of row `row` of the plane, from column `first` on.
-pub fn seconds_row(out: &mut [u8], plane: &[u8], stride: usize, row: usize, first: usize)
+fn seconds_row(out: &mut [u8], plane: &[u8], stride: usize, row: usize, first: usize)
     requires { ⌜ StepsFit (length (now out)) (length (now plane)) 2 stride row ⌝ }
     requires { ⌜ first < 2 ⌝ }
     ensures { λ _. ⌜ now (out .exit) ≡ paint every (λ c. sample (now (plane .entry)) stride row (2 * c + first)) (now (out .entry)) ⌝ }
@@ -157,7 +161,7 @@ pub fn seconds_row(out: &mut [u8], plane: &[u8], stride: usize, row: usize, firs
 }
 
 // out becomes every fourth sample of row `row` of the plane, from column `first` on.
-pub fn fourths_row(out: &mut [u8], plane: &[u8], stride: usize, row: usize, first: usize)
+fn fourths_row(out: &mut [u8], plane: &[u8], stride: usize, row: usize, first: usize)
     requires { ⌜ StepsFit (length (now out)) (length (now plane)) 4 stride row ⌝ }
     requires { ⌜ first < 4 ⌝ }
     ensures { λ _. ⌜ now (out .exit) ≡ paint every (λ c. sample (now (plane .entry)) stride row (4 * c + first)) (now (out .entry)) ⌝ }
@@ -174,4 +178,50 @@ pub fn fourths_row(out: &mut [u8], plane: &[u8], stride: usize, row: usize, firs
         );
         at = end;
     }
+}
+
+// out becomes row `row` of the plane as if it went on past the stride, and held `fill` there.
+pub fn copy_wide(out: &mut [u8], plane: &[u8], stride: usize, row: usize, fill: u8)
+    requires { ⌜ WideFits (length (now out)) (length (now plane)) 1 stride row ⌝ }
+    ensures { λ _. ⌜ now (out .exit) ≡ paint every (λ c. seen fill (now (plane .entry)) stride row c) (now (out .entry)) ⌝ }
+{
+    let end = out.len();
+    copy_row(&mut out[0..stride], plane, stride, row);
+    if end == stride + 16 {
+        lent::fill(&mut out[stride..stride + 16], fill);
+        return;
+    }
+    lent::fill(&mut out[stride..end], fill);
+}
+
+// out becomes every second sample of such a row, from column `first` on.
+pub fn seconds_wide(out: &mut [u8], plane: &[u8], stride: usize, row: usize, first: usize, fill: u8)
+    requires { ⌜ WideFits (length (now out)) (length (now plane)) 2 stride row ⌝ }
+    requires { ⌜ first < 2 ⌝ }
+    ensures { λ _. ⌜ now (out .exit) ≡ paint every (λ c. seen fill (now (plane .entry)) stride row (2 * c + first)) (now (out .entry)) ⌝ }
+{
+    let half = stride / 2;
+    let end = out.len();
+    seconds_row(&mut out[0..half], plane, stride, row, first);
+    if end == half + 8 {
+        lent::fill(&mut out[half..half + 8], fill);
+        return;
+    }
+    lent::fill(&mut out[half..end], fill);
+}
+
+// out becomes every fourth sample of such a row, from column `first` on.
+pub fn fourths_wide(out: &mut [u8], plane: &[u8], stride: usize, row: usize, first: usize, fill: u8)
+    requires { ⌜ WideFits (length (now out)) (length (now plane)) 4 stride row ⌝ }
+    requires { ⌜ first < 4 ⌝ }
+    ensures { λ _. ⌜ now (out .exit) ≡ paint every (λ c. seen fill (now (plane .entry)) stride row (4 * c + first)) (now (out .entry)) ⌝ }
+{
+    let quarter = stride / 4;
+    let end = out.len();
+    fourths_row(&mut out[0..quarter], plane, stride, row, first);
+    if end == quarter + 4 {
+        lent::fill(&mut out[quarter..quarter + 4], fill);
+        return;
+    }
+    lent::fill(&mut out[quarter..end], fill);
 }

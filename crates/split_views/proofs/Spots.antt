@@ -1,4 +1,4 @@
--- What a row of the auxiliary view holds, case by case: layout's map, at a picture whose stride is whole macroblocks, so that W is the stride.
+-- What a row of the auxiliary view holds, case by case: layout's map, V2's for every W.
 -- Assumes nothing.
 use Prim.Native.Nat.{ℕ, _+_, _*_, _-_, _/_, _%_, _<_, _≤_}
 use native.Mathlib.Nat.{le-trans}
@@ -8,12 +8,13 @@ use mathlib.Core.List.{List}
 use borrow.Author.Tests.{lt-ltb, le-ltb}
 use Rattle.lent.specs.Samples.{sample}
 use Rattle.lent.proofs.Cells.{row-in}
-use Rattle.layout.specs.Maps.{PY, shift, fromV2, v2WidthOf}
+use Rattle.layout.specs.Maps.{PY, shift}
 use Rattle.layout.specs.declared.Chroma.{Chroma}
 use Rattle.layout.specs.declared.Layout.the-variants.{V1, V2}
 use Rattle.layout.proofs.Halves.{half-at}
 use Rattle.layout.proofs.Spots.{v2-luma-place}
-use Rattle.split_views.specs.Views.{pickChroma, sampleAt, auxiliarySample, v2ChromaSample}
+pub use Rattle.split_rows.proofs.Rows.{seen-inside}
+use Rattle.split_views.specs.Views.{seen, pickChroma, seenAt, auxiliarySample, v2ChromaSample}
 use Rattle.split_views.specs.Fits.{BlockFits}
 
 -- a row of a macroblock that fits, fits
@@ -22,23 +23,23 @@ row-fits m stride row fits = le-trans (row-in stride (row - row % 16 + 16) row (
 
 module _ (stride : ℕ) (u v : List ℕ) where
   -- V1: the rows of a macroblock, the first 8 and the others
-  pub v1-u-row : (row c : ℕ) → row % 16 < 8 → sample u stride (row - row % 16 + 2 * (row % 16) + 1) c ≡ auxiliarySample V1 stride u v PY row c
+  pub v1-u-row : (row c : ℕ) → row % 16 < 8 → c < stride → sample u stride (row - row % 16 + 2 * (row % 16) + 1) c ≡ auxiliarySample V1 stride u v PY row c
   unfolding auxiliarySample
-  v1-u-row row c h = rw (lt-ltb (row % 16) 8 h) (ap (λ (r : ℕ). sample u stride r c) (omega arith))
+  v1-u-row row c h inside =
+      rw (lt-ltb (row % 16) 8 h) (ap (λ (r : ℕ). sample u stride r c) (omega arith) ∙ seen-inside 128 u stride (row - row % 16 + (2 * (row % 16 - 0) + 1)) c inside)
 
-  pub v1-v-row : (row c : ℕ) → 8 ≤ row % 16 → sample v stride (row - row % 16 + 2 * (row % 16 - 8) + 1) c ≡ auxiliarySample V1 stride u v PY row c
+  pub v1-v-row : (row c : ℕ) → 8 ≤ row % 16 → c < stride → sample v stride (row - row % 16 + 2 * (row % 16 - 8) + 1) c ≡ auxiliarySample V1 stride u v PY row c
   unfolding auxiliarySample
-  v1-v-row row c h = rw (le-ltb (row % 16) 8 h) (ap (λ (r : ℕ). sample v stride r c) (omega arith))
+  v1-v-row row c h inside =
+      rw (le-ltb (row % 16) 8 h) (ap (λ (r : ℕ). sample v stride r c) (omega arith) ∙ seen-inside 128 v stride (row - row % 16 + (2 * (row % 16 - 8) + 1)) c inside)
 
   -- V2: j places into the half of k
-  pub v2-luma-half : stride % 16 ≡ 0 → (k : Chroma) (r j : ℕ) → j < stride / 2 → sample (pickChroma k u v) stride r (2 * j + 1) ≡ auxiliarySample V2 stride u v PY r (shift k (stride / 2) + j)
+  pub v2-luma-half : (W : ℕ) (k : Chroma) (r j : ℕ) → j < W / 2 → seen 128 (pickChroma k u v) stride r (2 * j + 1) ≡ auxiliarySample (V2 W) stride u v PY r (shift k (W / 2) + j)
   unfolding auxiliarySample
-  v2-luma-half wide k r j h =
-      let width : v2WidthOf stride ≡ stride = omega (arith, wide) in
-      sym (ap (λ (w : ℕ). sampleAt stride u v (fromV2 w PY r (shift k (stride / 2) + j))) width ∙ ap (sampleAt stride u v) (v2-luma-place stride k r j h))
+  v2-luma-half W k r j h = sym (ap (seenAt stride u v) (v2-luma-place W k r j h))
 
-  pub v2-chroma-half : (k : Chroma) (first r j : ℕ) → j < stride / 4 → sample (pickChroma k u v) stride r (4 * j + first) ≡ v2ChromaSample stride u v first r (shift k (stride / 4) + j)
+  pub v2-chroma-half : (W : ℕ) (k : Chroma) (first r j : ℕ) → j < W / 4 → seen 128 (pickChroma k u v) stride r (4 * j + first) ≡ v2ChromaSample W stride u v first r (shift k (W / 4) + j)
   unfolding v2ChromaSample
-  v2-chroma-half k first r j h =
-      let half = half-at k (stride / 4) j refl h in
-      sym (λ i. sample (pickChroma (half .0 i) u v) stride r (4 * half .1 i + first))
+  v2-chroma-half W k first r j h =
+      let half = half-at k (W / 4) j refl h in
+      sym (λ i. seen 128 (pickChroma (half .0 i) u v) stride r (4 * half .1 i + first))

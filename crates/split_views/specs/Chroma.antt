@@ -4,11 +4,10 @@
 --                            every fourth column from `first` on
 use Prim.Native.Nat.{ℕ, _+_, _*_}
 use mathlib.Core.List.{List}
-use Rattle.lent.specs.Samples.{sample}
 use Rattle.layout.specs.declared.Layout.{Layout}
 use Rattle.layout.specs.declared.Layout.the-variants.{V1, V2}
-use Rattle.split_views.specs.Views.{v2ChromaSample}
+use Rattle.split_views.specs.Views.{seen, v2ChromaSample}
 
 unfoldable pub chromaSample : Layout → ℕ → List ℕ → List ℕ → List ℕ → ℕ → ℕ → ℕ → ℕ
-chromaSample V1 stride own u v first r c = sample own stride (2 * r) (2 * c + 1)
-chromaSample V2 stride own u v first r c = v2ChromaSample stride u v first (2 * r + 1) c
+chromaSample V1 stride own u v first r c = seen 128 own stride (2 * r) (2 * c + 1)
+chromaSample (V2 W) stride own u v first r c = v2ChromaSample W stride u v first (2 * r + 1) c

@@ -6,38 +6,57 @@ ghost use mathlib.Core.Path.{_≡_};
 ghost use Prim.Native.Nat.{_+_, _*_, _/_, _<_, _≤_};
 ghost use lib.ListN.{length};
 ghost use Rattle.lent.specs.Paint.{painted, whole};
-ghost use Rattle.layout.specs.Maps.{PY};
+ghost use Rattle.layout.specs.Maps.{PY, viewWideOf};
 ghost use Rattle.split_views.specs.Views.{atEntry, atExit, auxiliarySample, v2ChromaSample, Written};
-ghost use Rattle.split_views.specs.Fits.{MacroblocksFit, Room};
+ghost use Rattle.split_views.specs.Fits.{MacroblocksFit, WideEnough, Room};
 ghost use Rattle.split_views.specs.Chroma.{chromaSample};
 use layout::Layout;
 
 // The luma plane.
-fn luma(layout: Layout, out: &mut [u8], u: &[u8], v: &[u8], stride: usize, rows: usize)
-    requires { ⌜ rows * stride ≤ length (now out) ⌝ }
+fn luma(layout: Layout, out: &mut [u8], u: &[u8], v: &[u8], stride: usize, wide: usize, rows: usize)
+    requires { ⌜ rows * wide ≤ length (now out) ⌝ }
     requires { ⌜ MacroblocksFit (length (now u)) stride rows ⌝ }
     requires { ⌜ MacroblocksFit (length (now v)) stride rows ⌝ }
-    ensures { λ _. ⌜ now (out .exit) ≡ painted stride rows whole
+    requires { ⌜ WideEnough stride wide ⌝ }
+    requires { ⌜ wide ≡ viewWideOf layout stride ⌝ }
+    ensures { λ _. ⌜ now (out .exit) ≡ painted wide rows whole
         (auxiliarySample layout stride (now (u .entry)) (now (v .entry)) PY) (now (out .entry)) ⌝ }
 {
     let mut row = 0;
     while row < rows {
-        let line = row * stride;
-        crate::auxiliary_rows::luma_row(layout, &mut out[line..line + stride], u, v, stride, row);
+        let line = row * wide;
+        crate::auxiliary_rows::luma_row(
+            layout,
+            &mut out[line..line + wide],
+            u,
+            v,
+            stride,
+            wide,
+            row,
+        );
         row += 1;
     }
 }
 
 // V2's U plane, or its V plane: odd rows of the picture, from column 0 or 2 on.
-fn v2_chroma(out: &mut [u8], u: &[u8], v: &[u8], stride: usize, rows: usize, first: usize)
-    requires { ⌜ rows / 2 * (stride / 2) ≤ length (now out) ⌝ }
+fn v2_chroma(
+    out: &mut [u8],
+    u: &[u8],
+    v: &[u8],
+    stride: usize,
+    wide: usize,
+    rows: usize,
+    first: usize,
+)
+    requires { ⌜ rows / 2 * (wide / 2) ≤ length (now out) ⌝ }
     requires { ⌜ MacroblocksFit (length (now u)) stride rows ⌝ }
     requires { ⌜ MacroblocksFit (length (now v)) stride rows ⌝ }
+    requires { ⌜ WideEnough stride wide ⌝ }
     requires { ⌜ first < 4 ⌝ }
-    ensures { λ _. ⌜ now (out .exit) ≡ painted (stride / 2) (rows / 2) whole
-        (λ r. v2ChromaSample stride (now (u .entry)) (now (v .entry)) first (2 * r + 1)) (now (out .entry)) ⌝ }
+    ensures { λ _. ⌜ now (out .exit) ≡ painted (wide / 2) (rows / 2) whole
+        (λ r. v2ChromaSample wide stride (now (u .entry)) (now (v .entry)) first (2 * r + 1)) (now (out .entry)) ⌝ }
 {
-    let half = stride / 2;
+    let half = wide / 2;
     let high = rows / 2;
     let mut row = 0;
     while row < high {
@@ -47,6 +66,7 @@ fn v2_chroma(out: &mut [u8], u: &[u8], v: &[u8], stride: usize, rows: usize, fir
             u,
             v,
             stride,
+            wide,
             2 * row + 1,
             first,
         );
@@ -62,29 +82,33 @@ fn chroma(
     u: &[u8],
     v: &[u8],
     stride: usize,
+    wide: usize,
     rows: usize,
     first: usize,
 )
-    requires { ⌜ rows / 2 * (stride / 2) ≤ length (now out) ⌝ }
+    requires { ⌜ rows / 2 * (wide / 2) ≤ length (now out) ⌝ }
     requires { ⌜ MacroblocksFit (length (now own)) stride rows ⌝ }
     requires { ⌜ MacroblocksFit (length (now u)) stride rows ⌝ }
     requires { ⌜ MacroblocksFit (length (now v)) stride rows ⌝ }
+    requires { ⌜ WideEnough stride wide ⌝ }
+    requires { ⌜ wide ≡ viewWideOf layout stride ⌝ }
     requires { ⌜ first < 4 ⌝ }
-    ensures { λ _. ⌜ now (out .exit) ≡ painted (stride / 2) (rows / 2) whole
+    ensures { λ _. ⌜ now (out .exit) ≡ painted (wide / 2) (rows / 2) whole
         (chromaSample layout stride (now (own .entry)) (now (u .entry)) (now (v .entry)) first) (now (out .entry)) ⌝ }
 {
     match layout {
-        Layout::V1 => crate::half_plane(out, own, stride, rows, 1),
-        Layout::V2 => v2_chroma(out, u, v, stride, rows, first),
+        Layout::V1 => crate::half_plane(out, own, stride, wide, rows, 1),
+        Layout::V2(_) => v2_chroma(out, u, v, stride, wide, rows, first),
     }
 }
 
-// The auxiliary view.
+// The auxiliary view, of the width that its layout has.
 pub fn auxiliary_view(
     layout: Layout,
     u: &[u8],
     v: &[u8],
     stride: usize,
+    wide: usize,
     rows: usize,
     auxiliary_y: &mut [u8],
     auxiliary_u: &mut [u8],
@@ -92,11 +116,13 @@ pub fn auxiliary_view(
 )
     requires { ⌜ MacroblocksFit (length (now u)) stride rows ⌝ }
     requires { ⌜ MacroblocksFit (length (now v)) stride rows ⌝ }
-    requires { ⌜ Room (length (now «auxiliary_y»)) (length (now «auxiliary_u»)) (length (now «auxiliary_v»)) stride rows ⌝ }
-    ensures { λ _. ⌜ Written stride rows (auxiliarySample layout stride (now (u .entry)) (now (v .entry)))
+    requires { ⌜ WideEnough stride wide ⌝ }
+    requires { ⌜ wide ≡ viewWideOf layout stride ⌝ }
+    requires { ⌜ Room (length (now «auxiliary_y»)) (length (now «auxiliary_u»)) (length (now «auxiliary_v»)) wide rows ⌝ }
+    ensures { λ _. ⌜ Written wide rows (auxiliarySample layout stride (now (u .entry)) (now (v .entry)))
         (atEntry «auxiliary_y» «auxiliary_u» «auxiliary_v») (atExit «auxiliary_y» «auxiliary_u» «auxiliary_v») ⌝ }
 {
-    luma(layout, auxiliary_y, u, v, stride, rows);
-    chroma(layout, auxiliary_u, u, u, v, stride, rows, 0);
-    chroma(layout, auxiliary_v, v, u, v, stride, rows, 2);
+    luma(layout, auxiliary_y, u, v, stride, wide, rows);
+    chroma(layout, auxiliary_u, u, u, v, stride, wide, rows, 0);
+    chroma(layout, auxiliary_v, v, u, v, stride, wide, rows, 2);
 }

@@ -5,10 +5,10 @@ ghost use mathlib.Core.Path.{_≡_};
 ghost use Prim.Native.Nat.{_+_, _*_, _%_, _<_, _≤_};
 ghost use lib.ListN.{length};
 ghost use Rattle.lent.specs.Paint.{paint, every};
-ghost use Rattle.layout.specs.Maps.{PY};
+ghost use Rattle.layout.specs.Maps.{PY, viewWideOf};
 ghost use Rattle.layout.specs.declared.Layout.the-variants.{V1, V2};
 ghost use Rattle.split_views.specs.Views.{auxiliarySample, v2ChromaSample};
-ghost use Rattle.split_views.specs.Fits.{BlockFits};
+ghost use Rattle.split_views.specs.Fits.{BlockFits, WideEnough};
 use layout::Layout;
 
 // V1, a luma row: of 16 the first 8 are odd rows of U, the others odd rows of V.
@@ -28,23 +28,34 @@ fn v1_luma_row(out: &mut [u8], u: &[u8], v: &[u8], stride: usize, row: usize)
     split_rows::copy_row(out, v, stride, block + 2 * (within - 8) + 1);
 }
 
-// V2, a luma row: the odd columns of U, then those of V.
-fn v2_luma_row(out: &mut [u8], u: &[u8], v: &[u8], stride: usize, row: usize)
-    requires { ⌜ length (now out) ≡ stride ⌝ }
+// V2, a luma row: the odd columns of U, then those of V, each with 128 past the stride.
+fn v2_luma_row(out: &mut [u8], u: &[u8], v: &[u8], stride: usize, wide: usize, row: usize)
+    requires { ⌜ length (now out) ≡ wide ⌝ }
+    requires { ⌜ WideEnough stride wide ⌝ }
     requires { ⌜ stride % 16 ≡ 0 ⌝ }
     requires { ⌜ row * stride + stride ≤ length (now u) ⌝ }
     requires { ⌜ row * stride + stride ≤ length (now v) ⌝ }
-    ensures { λ _. ⌜ now (out .exit) ≡ paint every (auxiliarySample V2 stride (now (u .entry)) (now (v .entry)) PY row)
+    ensures { λ _. ⌜ now (out .exit) ≡ paint every (auxiliarySample (V2 wide) stride (now (u .entry)) (now (v .entry)) PY row)
         (now (out .entry)) ⌝ }
 {
-    let half = stride / 2;
-    split_rows::seconds_row(&mut out[0..half], u, stride, row, 1);
-    split_rows::seconds_row(&mut out[half..stride], v, stride, row, 1);
+    let half = wide / 2;
+    split_rows::seconds_wide(&mut out[0..half], u, stride, row, 1, 128);
+    split_rows::seconds_wide(&mut out[half..wide], v, stride, row, 1, 128);
 }
 
 // A luma row, in either layout.
-pub fn luma_row(layout: Layout, out: &mut [u8], u: &[u8], v: &[u8], stride: usize, row: usize)
-    requires { ⌜ length (now out) ≡ stride ⌝ }
+pub fn luma_row(
+    layout: Layout,
+    out: &mut [u8],
+    u: &[u8],
+    v: &[u8],
+    stride: usize,
+    wide: usize,
+    row: usize,
+)
+    requires { ⌜ length (now out) ≡ wide ⌝ }
+    requires { ⌜ WideEnough stride wide ⌝ }
+    requires { ⌜ wide ≡ viewWideOf layout stride ⌝ }
     requires { ⌜ stride % 16 ≡ 0 ⌝ }
     requires { ⌜ BlockFits (length (now u)) stride row ⌝ }
     requires { ⌜ BlockFits (length (now v)) stride row ⌝ }
@@ -53,22 +64,31 @@ pub fn luma_row(layout: Layout, out: &mut [u8], u: &[u8], v: &[u8], stride: usiz
 {
     match layout {
         Layout::V1 => v1_luma_row(out, u, v, stride, row),
-        Layout::V2 => v2_luma_row(out, u, v, stride, row),
+        Layout::V2(_) => v2_luma_row(out, u, v, stride, wide, row),
     }
 }
 
-// V2, a chroma row: every fourth column of row `row` of the picture, from `first` on, U's and then V's.
-pub fn v2_chroma_row(out: &mut [u8], u: &[u8], v: &[u8], stride: usize, row: usize, first: usize)
-    requires { ⌜ 2 * length (now out) ≡ stride ⌝ }
+// V2, a chroma row: every fourth column of row `row` of the picture, from `first` on, U's and then V's, each with 128 past the stride.
+pub fn v2_chroma_row(
+    out: &mut [u8],
+    u: &[u8],
+    v: &[u8],
+    stride: usize,
+    wide: usize,
+    row: usize,
+    first: usize,
+)
+    requires { ⌜ 2 * length (now out) ≡ wide ⌝ }
+    requires { ⌜ WideEnough stride wide ⌝ }
     requires { ⌜ stride % 16 ≡ 0 ⌝ }
     requires { ⌜ row * stride + stride ≤ length (now u) ⌝ }
     requires { ⌜ row * stride + stride ≤ length (now v) ⌝ }
     requires { ⌜ first < 4 ⌝ }
-    ensures { λ _. ⌜ now (out .exit) ≡ paint every (v2ChromaSample stride (now (u .entry)) (now (v .entry)) first row)
+    ensures { λ _. ⌜ now (out .exit) ≡ paint every (v2ChromaSample wide stride (now (u .entry)) (now (v .entry)) first row)
         (now (out .entry)) ⌝ }
 {
-    let half = stride / 2;
-    let quarter = stride / 4;
-    split_rows::fourths_row(&mut out[0..quarter], u, stride, row, first);
-    split_rows::fourths_row(&mut out[quarter..half], v, stride, row, first);
+    let half = wide / 2;
+    let quarter = wide / 4;
+    split_rows::fourths_wide(&mut out[0..quarter], u, stride, row, first, 128);
+    split_rows::fourths_wide(&mut out[quarter..half], v, stride, row, first, 128);
 }

@@ -36,9 +36,9 @@ one c = planes (start c .args .first-y .now) (start c .args .first-u .now) (star
 abbrev other : tie.After-both-number → Planes
 other c = planes (start c .args .second-y .now) (start c .args .second-u .now) (start c .args .second-v .now)
 
-numbered : (c : tie.After-both-number) → c .both-number .result ≡ bothNumberOf (start c .args .size) (now (start c .args .rects)) (from c) (main c) (auxiliary c) (one c) (other c)
+numbered : (c : tie.After-both-number) → c .both-number .result ≡ bothNumberOf (start c .args .one) (start c .args .other) (start c .args .size) (now (start c .args .rects)) (from c) (main c) (auxiliary c) (one c) (other c)
 numbered c =
-    c .both-number .ensures ∙ sym (both-plainly (start c .args .size) (now (start c .args .rects)) (from c) (main c) (auxiliary c) (one c) (other c))
+    c .both-number .ensures ∙ sym (both-plainly (start c .args .one) (start c .args .other) (start c .args .size) (now (start c .args .rects)) (from c) (main c) (auxiliary c) (one c) (other c))
 
 both-number-requires : tie.Need-both-number-requires
 both-number-requires c κs = search needs
@@ -46,7 +46,7 @@ both-number-requires c κs = search needs
 returns : tie.Need-returns
 returns c =
     let k = c .before in
-    both-refused (start k .args .size) (now (start k .args .rects)) (from k) (main k) (auxiliary k) (one k) (other k) (numbered k) (c .if1 .taken)
+    both-refused (start k .args .one) (start k .args .other) (start k .args .size) (now (start k .args .rects)) (from k) (main k) (auxiliary k) (one k) (other k) (numbered k) (c .if1 .taken)
 
 through-requires : tie.Need-through-requires
 through-requires c κs = search needs
@@ -94,7 +94,7 @@ returns-2 : tie.Need-returns-2
 returns-2 c =
     let e = first-at c .before .before .before .before .before .before .before .before .before .before in
     let k = e .before in
-    both-done (start k .args .size) (now (start k .args .rects)) (from k) (main k) (auxiliary k) (one k) (other k) (sym (numbered k) ∙ e .if1 .left)
+    both-done (start k .args .one) (start k .args .other) (start k .args .size) (now (start k .args .rects)) (from k) (main k) (auxiliary k) (one k) (other k) (sym (numbered k) ∙ e .if1 .left)
     (first-at c .through .ensures) (second-at c .through2 .ensures)
 
 pub both-spec : {M : Type 1} → statement M

@@ -1,4 +1,4 @@
--- `apply_auxiliary::auxiliary_rows` meets its contract: each layout has its function.
+-- `apply_auxiliary::auxiliary_rows` meets its contract: each layout has its function, and V2 hands on its W.
 -- Assumes nothing.
 use borrow.Author.Needs.{needs}
 use mathlib.Core.Path.{sym, ap, _∙_}
@@ -27,8 +27,8 @@ enum-told c = search needs
 v1-rows-requires : tie.Need-v1-rows-requires
 v1-rows-requires c κs = search needs
 
-enum-told-2 : tie.Need-enum-told-2
-enum-told-2 c = search needs
+enum-known-layout : tie.Need-enum-known-layout
+enum-known-layout c = search needs
 
 v2-rows-requires : tie.Need-v2-rows-requires
 v2-rows-requires c κs = search needs
@@ -57,13 +57,13 @@ same-length-4 c = search needs
 returns-2 : tie.Need-returns-2
 returns-2 c =
     let call = c .before .before .before .before in
-    let told = call .before .before .before in
-    let s = told .before .before .before .before .before .before .before in
+    let known = call .before .before .before .before in
+    let s = known .before .before .before .before .before .before .before in
     let e = call .v2-rows .ensures in
-    let is = sym (told .enum-told2 .given .1) in
+    let is = sym (known .layout .given .1) in
     (e .0 ∙ ap (asked s CU (now (s .args .u))) is, e .1 ∙ ap (asked s CV (now (s .args .v))) is)
 
 pub auxiliary-rows-spec : {M : Type 1} → statement M
 auxiliary-rows-spec =
     tie.close
-    (tie.spec enum-told v1-rows-requires enum-told-2 v2-rows-requires same-length same-length-2 returns same-length-3 same-length-4 returns-2)
+    (tie.spec enum-told v1-rows-requires enum-known-layout v2-rows-requires same-length same-length-2 returns same-length-3 same-length-4 returns-2)

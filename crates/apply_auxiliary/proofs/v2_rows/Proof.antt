@@ -12,12 +12,12 @@ use Rattle.apply_auxiliary.proofs.v2_rows.Statement.{statement}
 use Rattle.apply_auxiliary.proofs.v2_rows.Tie as tie
 
 abbrev Inv-loop : tie.InvT-loop
-Inv-loop u₀ v₀ size area w vy vu vv row₀ u v row =
-    AreaRows V2 w area (strideOf size) (rowsOf size) (auxiliarySource V2 CU w vy vu vv) u₀ u row
-    × AreaRows V2 w area (strideOf size) (rowsOf size) (auxiliarySource V2 CV w vy vu vv) v₀ v row
+Inv-loop u₀ v₀ size wide area w vy vu vv row₀ u v row =
+    AreaRows (V2 wide) w area (strideOf size) (rowsOf size) (auxiliarySource (V2 wide) CU w vy vu vv) u₀ u row
+    × AreaRows (V2 wide) w area (strideOf size) (rowsOf size) (auxiliarySource (V2 wide) CV w vy vu vv) v₀ v row
 
 abbrev μ-loop : tie.MeasureT-loop
-μ-loop u₀ v₀ size area w vy vu vv row₀ u v row = area .bottom - row
+μ-loop u₀ v₀ size wide area w vy vu vv row₀ u v row = area .bottom - row
 
 loop-holds : tie.Need-loop-holds Inv-loop μ-loop
 loop-holds c = (area-rows-none _ _ _ _ _ _ _, area-rows-none _ _ _ _ _ _ _)

@@ -2,8 +2,8 @@
 -- and both views are written.
 -- Assumes nothing.
 use borrow.Author.Needs.{needs}
-use mathlib.Core.Path.{_≡_, sym, _∙_}
-use Rattle.split.specs.Split.{Planes, planes, lengthsOf, splitNumberOf}
+use mathlib.Core.Path.{sym, _∙_}
+use Rattle.split.specs.Split.{Planes, planes, lengthsOf}
 use Rattle.split.specs.Accepted.{SplitAccepted}
 use Rattle.split.proofs.Calls.{accepted, refused, done}
 use Rattle.split.proofs.split.Statement.{statement}
@@ -21,8 +21,8 @@ main c = let a = start c .args in planes (a .main-y .now) (a .main-u .now) (a .m
 abbrev auxiliary : tie.After-split-number → Planes
 auxiliary c = let a = start c .args in planes (a .auxiliary-y .now) (a .auxiliary-u .now) (a .auxiliary-v .now)
 
-fits : (c : tie.Else1) → let k = c .before in SplitAccepted (start k .args .size) (lengthsOf (from k)) (lengthsOf (main k)) (lengthsOf (auxiliary k))
-fits c = accepted _ _ _ _ (sym (c .before .split-number .ensures) ∙ c .if1 .left)
+fits : (c : tie.Else1) → let k = c .before in SplitAccepted (start k .args .way) (start k .args .size) (lengthsOf (from k)) (lengthsOf (main k)) (lengthsOf (auxiliary k))
+fits c = accepted _ _ _ _ _ (sym (c .before .split-number .ensures) ∙ c .if1 .left)
 
 split-number-requires : tie.Need-split-number-requires
 split-number-requires c κs = search needs

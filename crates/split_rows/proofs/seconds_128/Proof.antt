@@ -3,10 +3,10 @@
 use borrow.Author.Needs.{needs}
 use Prim.Native.Nat.{ℕ, _+_, _*_, _-_}
 use native.Mathlib.Omega.{arith}
-use mathlib.Core.Path.{refl, ap, _∙_}
+use mathlib.Core.Path.{ap, _∙_}
 use lib.ListN.{getD, drop}
 use lib.Seq.{getD-take, getD-drop}
-use Rattle.split_rows.proofs.Rows.{two-halves}
+use Rattle.split_rows.proofs.Rows.{two-parts}
 use Rattle.split_rows.proofs.seconds_128.Statement.{statement}
 use Rattle.split_rows.proofs.seconds_128.Tie as tie
 
@@ -60,7 +60,7 @@ returns c =
     let q = c .before .before .before .before .before .before .before in
     let a = q .before .before .before .before .before .args in
     let src = a .src .now in
-    two-halves (a .dst .now) _ _ 64 128 _ _ (λ j. getD src (2 * j + a .first) 0) (q .before .before .before .before .before .pre .0) refl (q .seconds-64 .ensures) (c .before .before .seconds-642 .ensures)
+    two-parts (a .dst .now) _ _ 64 128 _ _ (λ j. getD src (2 * j + a .first) 0) (q .before .before .before .before .before .pre .0) (omega arith) (q .seconds-64 .ensures) (c .before .before .seconds-642 .ensures)
     (λ j h. getD-take (128 - 0) (drop 0 src) (2 * j + a .first) 0 (omega arith) ∙ getD-drop 0 src (2 * j + a .first) 0 ∙ ap (λ (i : ℕ). getD src i 0) (omega arith))
     (λ j h. getD-take (256 - 128) (drop 128 src) (2 * j + a .first) 0 (omega arith) ∙ getD-drop 128 src (2 * j + a .first) 0 ∙ ap (λ (i : ℕ). getD src i 0) (omega arith))
 

@@ -17,7 +17,7 @@ abbrev start : tie.After-through-number → tie.Start
 start c = c .before .before .before .before .before .before .before .before .before .before .before .before .before .before
 
 abbrev split-at : tie.After-slice-known21 → tie.After-split
-split-at c = c .before .before .before .before .before .before .before .before .before .before .before .before .before .before .before .before .before .before .before .before .before .before .before .before .before .before .before .before .before .before .before .before .before .before .before .before .before .before .before
+split-at c = c .before .before .before .before .before .before .before .before .before .before .before .before .before .before .before .before .before .before .before .before .before .before .before .before .before .before .before .before .before .before .before .before .before .before .before .before .before .before .before .before
 
 abbrev from : tie.After-through-number → Planes
 from c = planes (start c .args .y .now) (start c .args .u .now) (start c .args .v .now)
@@ -32,17 +32,17 @@ abbrev old : tie.After-through-number → Planes
 old c = planes (start c .args .qy .now) (start c .args .qu .now) (start c .args .qv .now)
 
 numbered : (c : tie.After-through-number) → c .through-number .result
-    ≡ firstOf (splitNumberOf (start c .args .size) (lengthsOf (from c)) (lengthsOf (main c)) (lengthsOf (auxiliary c)))
+    ≡ firstOf (splitNumberOf (start c .args .way) (start c .args .size) (lengthsOf (from c)) (lengthsOf (main c)) (lengthsOf (auxiliary c)))
     (earlierNumberOf (start c .args .size) (lengthsOf (old c)) (length (now (start c .args .rects))))
 numbered c = c .through-number .ensures
 
 zero : (c : tie.Else1)
     → let a = start (c .before) .args in
-    throughNumberOf (a .layout) (a .size) (now (a .rects)) (from (c .before)) (main (c .before)) (auxiliary (c .before)) (old (c .before)) ≡ 0
+    throughNumberOf (a .way) (a .size) (now (a .rects)) (from (c .before)) (main (c .before)) (auxiliary (c .before)) (old (c .before)) ≡ 0
 zero c =
     let k = c .before in
     let a = start k .args in
-    through-plainly (a .layout) (a .size) (now (a .rects)) (from k) (main k) (auxiliary k) (old k) ∙ sym (numbered k) ∙ c .if1 .left
+    through-plainly (a .way) (a .size) (now (a .rects)) (from k) (main k) (auxiliary k) (old k) ∙ sym (numbered k) ∙ c .if1 .left
 
 through-number-requires : tie.Need-through-number-requires
 through-number-requires c κs = search needs
@@ -51,13 +51,16 @@ returns : tie.Need-returns
 returns c =
     let k = c .before in
     let a = start k .args in
-    through-refused (a .layout) (a .size) (now (a .rects)) (from k) (main k) (auxiliary k) (old k) (numbered k) (c .if1 .taken)
+    through-refused (a .way) (a .size) (now (a .rects)) (from k) (main k) (auxiliary k) (old k) (numbered k) (c .if1 .taken)
 
 split-requires : tie.Need-split-requires
 split-requires c κs = search needs
 
 view-of-requires : tie.Need-view-of-requires
 view-of-requires c κs = search needs
+
+layout-of-requires : tie.Need-layout-of-requires
+layout-of-requires c κs = search needs
 
 apply-main-view-requires : tie.Need-apply-main-view-requires
 apply-main-view-requires c κs = search needs
@@ -99,8 +102,9 @@ returns-2 c =
     let k = e .before in
     let a = start k .args in
     let first = c .before .before .before .before .before .before .before .before .before .before .before .before .before .before .before .before .before .before .before in
-    through-done (a .layout) (a .size) (now (a .rects)) (from k) (main k) (auxiliary k) (old k) (zero e)
-    (s .split .ensures) (first .before .before .before .before .before .before .before .view-of .ensures) (first .apply-main-view .ensures) (c .before .before .before .before .before .before .apply-auxiliary-view .ensures)
+    let laid = first .before .before .before .before .before .before .before in
+    through-done (a .way) (a .size) (now (a .rects)) (from k) (main k) (auxiliary k) (old k) (zero e)
+    (s .split .ensures) (laid .before .view-of .ensures) (laid .layout-of .ensures) (first .apply-main-view .ensures) (c .before .before .before .before .before .before .apply-auxiliary-view .ensures)
 
 pub through-spec : {M : Type 1} → statement M
 through-spec =
@@ -110,6 +114,7 @@ through-spec =
     returns
     split-requires
     view-of-requires
+    layout-of-requires
     apply-main-view-requires
     apply-auxiliary-view-requires
     same-length

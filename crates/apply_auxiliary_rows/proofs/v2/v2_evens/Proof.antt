@@ -12,7 +12,7 @@ use Rattle.view.specs.View.{chromaOf}
 use Rattle.view.proofs.Starts.{rowStart-at, rowStart-absent, row-fits}
 use Rattle.layout.specs.declared.Chroma.the-variants.{CU, CV}
 use Rattle.layout.specs.declared.Layout.the-variants.{V2}
-use Rattle.layout.specs.Maps.{shift, v2WidthOf}
+use Rattle.layout.specs.Maps.{shift}
 use Rattle.layout.specs.Exists.{fed, v2EvensBelowOf}
 use Rattle.columns.specs.Turns.{even}
 use Rattle.apply_auxiliary_rows.proofs.Columns.{columns-none}
@@ -26,8 +26,8 @@ use Rattle.apply_auxiliary_rows.proofs.v2.v2_evens.Tie as tie
 abbrev entry : tie.After-at → tie.Start
 entry f = f .before .before .before .before .before .before .before .before .before
 
-abbrev at-of : tie.After-v2-width → tie.After-at
-at-of o = o .before .before .before .before .before
+abbrev at-of : tie.Else2 → tie.After-at
+at-of o = o .before .before .before .before
 
 -- the row is odd; the view has its chroma row, which starts at `at`
 by-odd : (f : tie.After-at) → entry f .args .row % 2 ≡ 1
@@ -48,70 +48,68 @@ view-row f =
     (omega (arith, there f .1, row-fits p _ (s .args .row / 2) (s .pre .1 .1 .0) (there f .0) .0), omega (arith, there f .1, row-fits p _ (s .args .row / 2) (s .pre .1 .1 .1) (there f .0) .0))
 
 -- one column bounds the even columns
-stops : (l : tie.After-least) → let a = entry (l .before .before .before) .args in l .least .result ≡ min (a .right) (v2EvensBelowOf (a .w .width))
+stops : (l : tie.After-least) → let a = entry (l .before .before .before) .args in l .least .result ≡ min (a .right) (v2EvensBelowOf (a .wide) (a .w .width))
 stops l = let a = entry (l .before .before .before) .args in l .least .ensures ∙ ap (λ (m : ℕ). min (a .right) m) (l .before .v2-evens-below .ensures)
 
 -- below it both halves of the rows are there
-seen : (o : tie.After-v2-width) (m : ℕ)
-    → let l = o .before .before in
+seen : (o : tie.Else2) (m : ℕ)
+    → let l = o .before in
     let f = at-of o in
-    f .at .given .0 .0 + entry f .args .w .«chroma_stride» ≤ m → f .at .given .0 .0 + o .v2-width .result / 4 + (l .least .result / 2 + 1) / 2 ≤ m
+    f .at .given .0 .0 + entry f .args .w .«chroma_stride» ≤ m → f .at .given .0 .0 + entry f .args .wide / 4 + (l .least .result / 2 + 1) / 2 ≤ m
 seen o m row =
-    let l = o .before .before in
+    let l = o .before in
     let f = at-of o in
     let s = entry f in
     let a = s .args in
-    let half = evens-seen (f .at .given .0 .0) (a .w .«chroma_stride») m (halfUp (a .w .width)) (v2WidthOf (a .w .width) / 4) (l .least .result) row (s .pre .1 .1 .0 .wide)
-    (omega (arith, o .before .if2 .left))
-    (omega (arith, stops l)) in
-    omega (arith, o .v2-width .ensures)
+    evens-seen (f .at .given .0 .0) (a .w .«chroma_stride») m (halfUp (a .w .width)) (a .wide / 4) (l .least .result) row (s .pre .1 .1 .0 .wide)
+    (omega (arith, o .if2 .left))
+    (omega (arith, stops l))
 
 -- the planes' lengths fit in the machine word
 fit : (s : tie.Start) → let fits : ℕ → Type 0 = λ n. n < 18446744073709551616 in fits (length (now (s .args .u))) × fits (length (now (s .args .vu)))
 fit s = (search needs, search needs)
 
 -- both planes have what is read, in whatever order they are handed on: which is which is said by what is written alone
-in-view : (o : tie.After-v2-width)
-    → let l = o .before .before in
+in-view : (o : tie.Else2)
+    → let l = o .before in
     let f = at-of o in
     let a = entry f .args in
-    let end : ℕ = f .at .given .0 .0 + o .v2-width .result / 4 + (l .least .result / 2 + 1) / 2 in
+    let end : ℕ = f .at .given .0 .0 + a .wide / 4 + (l .least .result / 2 + 1) / 2 in
     (end ≤ length (now (a .vu))) × (end ≤ length (now (a .vv))) × (end < 18446744073709551616) × (a .left ≤ l .least .result)
 in-view o =
     let f = at-of o in
     let in-u = seen o _ (view-row f .0) in
-    (in-u, seen o _ (view-row f .1), omega (arith, fit (entry f) .1), omega (arith, o .before .if2 .left))
+    (in-u, seen o _ (view-row f .1), omega (arith, fit (entry f) .1), omega (arith, o .if2 .left))
 
 -- what is written lies in the picture's planes
 in-planes : (n : tie.After-stride)
-    → let l = n .before .before .before in
+    → let l = n .before .before in
     let a = entry (at-of (n .before)) .args in
     let end : ℕ = a .row * n .stride .result + l .least .result in
     (a .left ≤ l .least .result) × (end ≤ length (now (a .u))) × (end ≤ length (now (a .v))) × (end < 18446744073709551616)
 in-planes n =
-    let l = n .before .before .before in
+    let l = n .before .before in
     let s = entry (at-of (n .before)) in
     let a = s .args in
     let below : l .least .result ≤ a .right = omega (arith, stops l) in
     let in-u = area-room (a .size) (now (a .u)) (a .row) _ _ (s .pre .0) _ (n .stride .ensures .0) _ below in
     let in-v = area-room (a .size) (now (a .v)) (a .row) _ _ (s .pre .1 .0) _ (n .stride .ensures .0) _ below in
-    (omega (arith, n .before .before .if2 .left), in-u, in-v, omega (arith, fit s .0))
+    (omega (arith, n .before .if2 .left), in-u, in-v, omega (arith, fit s .0))
 
 -- where each half of the rows starts
-own-u : (f : tie.After-at) → let a = entry f .args in f .at .given .0 .0 ≡ a .row / 2 * a .w .«chroma_stride» + shift CU (v2WidthOf (a .w .width) / 4)
+own-u : (f : tie.After-at) → let a = entry f .args in f .at .given .0 .0 ≡ a .row / 2 * a .w .«chroma_stride» + shift CU (a .wide / 4)
 own-u f = omega (arith, there f .1)
 
-own-v : (o : tie.After-v2-width)
-    → let f = at-of o in
-    let a = entry f .args in
-    f .at .given .0 .0 + o .v2-width .result / 4 ≡ a .row / 2 * a .w .«chroma_stride» + shift CV (v2WidthOf (a .w .width) / 4)
-own-v o = λ i. there (at-of o) .1 i + o .v2-width .ensures i / 4
+own-v : (f : tie.After-at)
+    → let a = entry f .args in
+    f .at .given .0 .0 + a .wide / 4 ≡ a .row / 2 * a .w .«chroma_stride» + shift CV (a .wide / 4)
+own-v f = ap (λ (m : ℕ). m + entry f .args .wide / 4) (there f .1)
 
 returns : tie.Need-returns
 returns c =
     let a = c .before .before .before .before .before .args in
-    let none : (k : ℕ) → a .left ≤ k → k < a .right → (fed V2 (a .w .width) (a .w .height) (a .row) k && even k) ≡ true → ⊥ =
-    λ k l h e. c .if1 .taken (v2-evens-facts (a .w) (a .row) k e .1) in
+    let none : (k : ℕ) → a .left ≤ k → k < a .right → (fed (V2 (a .wide)) (a .w .width) (a .w .height) (a .row) k && even k) ≡ true → ⊥ =
+    λ k l h e. c .if1 .taken (v2-evens-facts (a .wide) (a .w) (a .row) k e .1) in
     (λ vy. columns-none _ _ (a .row) (a .left) _ (a .right) _ _ none, λ vy. columns-none _ _ (a .row) (a .left) _ (a .right) _ _ none)
 
 half-up-requires : tie.Need-half-up-requires
@@ -131,8 +129,8 @@ returns-2 c =
     let r = c .before .before in
     let a = r .before .before .before .before .before .before .before .args in
     let late = rowStart-absent _ _ _ (r .row-start .ensures) (c .enum-told .given .1) in
-    let none : (k : ℕ) → a .left ≤ k → k < a .right → (fed V2 (a .w .width) (a .w .height) (a .row) k && even k) ≡ true → ⊥ =
-    λ k l h e. omega (arith, late, r .before .half-up .ensures, v2-evens-facts (a .w) (a .row) k e) in
+    let none : (k : ℕ) → a .left ≤ k → k < a .right → (fed (V2 (a .wide)) (a .w .width) (a .w .height) (a .row) k && even k) ≡ true → ⊥ =
+    λ k l h e. omega (arith, late, r .before .half-up .ensures, v2-evens-facts (a .wide) (a .w) (a .row) k e) in
     (λ vy. columns-none _ _ (a .row) (a .left) _ (a .right) _ _ none, λ vy. columns-none _ _ (a .row) (a .left) _ (a .right) _ _ none)
 
 v2-evens-below-requires : tie.Need-v2-evens-below-requires
@@ -145,12 +143,9 @@ returns-3 : tie.Need-returns-3
 returns-3 c =
     let l = c .before in
     let a = entry (l .before .before .before) .args in
-    let none : (k : ℕ) → a .left ≤ k → k < a .right → (fed V2 (a .w .width) (a .w .height) (a .row) k && even k) ≡ true → ⊥ =
-    λ k low h e. omega (arith, c .if2 .taken, stops l, v2-evens-facts (a .w) (a .row) k e) in
+    let none : (k : ℕ) → a .left ≤ k → k < a .right → (fed (V2 (a .wide)) (a .w .width) (a .w .height) (a .row) k && even k) ≡ true → ⊥ =
+    λ k low h e. omega (arith, c .if2 .taken, stops l, v2-evens-facts (a .wide) (a .w) (a .row) k e) in
     (λ vy. columns-none _ _ (a .row) (a .left) _ (a .right) _ _ none, λ vy. columns-none _ _ (a .row) (a .left) _ (a .right) _ _ none)
-
-v2-width-requires : tie.Need-v2-width-requires
-v2-width-requires c κs = search needs
 
 add-half : tie.Need-add-half
 add-half c = omega (arith, in-view c)
@@ -215,7 +210,7 @@ put-evens-requires c κs =
     let o = n .before in
     let f = at-of o in
     let p = entry f .pre .0 in
-    evens-fit _ _ _ _ (in-planes n .1) (p .even-left) (omega (arith, p .even-right, stops (o .before .before))) (in-planes n .0) _ _ _ (omega (arith, in-view o)) (omega (arith, in-view o))
+    evens-fit _ _ _ _ (in-planes n .1) (p .even-left) (omega (arith, p .even-right, stops (o .before))) (in-planes n .0) _ _ _ (omega (arith, in-view o)) (omega (arith, in-view o))
 
 -- the second call comes after the first
 abbrev stride-of : tie.After-slice-known3 → tie.After-stride
@@ -272,7 +267,7 @@ put-evens-requires-2 c κs =
     let o = n .before in
     let f = at-of o in
     let p = entry f .pre .0 in
-    evens-fit _ _ _ _ (in-planes n .2) (p .even-left) (omega (arith, p .even-right, stops (o .before .before))) (in-planes n .0) _ _ _ (omega (arith, in-view o)) (omega (arith, in-view o))
+    evens-fit _ _ _ _ (in-planes n .2) (p .even-left) (omega (arith, p .even-right, stops (o .before))) (in-planes n .0) _ _ _ (omega (arith, in-view o)) (omega (arith, in-view o))
 
 same-length : tie.Need-same-length
 same-length c = search needs
@@ -287,15 +282,15 @@ returns-4 c =
     let cu = m .before .before in
     let n = stride-of m in
     let o = n .before in
-    let l = o .before .before in
+    let l = o .before in
     let f = at-of o in
     let s = entry f in
     let a = s .args in
     let p = s .pre in (
       λ vy. v2-evens-written CU (a .size) (a .w) vy (now (a .vu)) (now (a .vv)) (now (a .u)) (cu .put-evens .last .0) (a .row) (a .left) (a .right) (l .least .result) (n .stride .result) _ (p .0) (n .stride .ensures .0) (in-planes n .0)
-          (by-odd f) (there f .0) (own-u f) (stops l) (cu .put-evens .ensures),
+          (a .wide) (by-odd f) (there f .0) (own-u f) (stops l) (cu .put-evens .ensures),
       λ vy. v2-evens-written CV (a .size) (a .w) vy (now (a .vu)) (now (a .vv)) (now (a .v)) (cv .put-evens2 .last .0) (a .row) (a .left) (a .right) (l .least .result) (n .stride .result) _ (p .1 .0) (n .stride .ensures .0) (in-planes n .0)
-          (by-odd f) (there f .0) (own-v o) (stops l) (cv .put-evens2 .ensures),
+          (a .wide) (by-odd f) (there f .0) (own-v f) (stops l) (cv .put-evens2 .ensures),
     )
 
 pub v2-evens-spec : {M : Type 1} → statement M
@@ -311,7 +306,6 @@ v2-evens-spec =
     v2-evens-below-requires
     least-requires
     returns-3
-    v2-width-requires
     add-half
     add-to
     stride-requires

@@ -11,7 +11,7 @@ use Rattle.view.specs.View.{lumaOf}
 use Rattle.view.proofs.Starts.{rowStart-at, rowStart-absent, row-fits}
 use Rattle.layout.specs.declared.Chroma.the-variants.{CU, CV}
 use Rattle.layout.specs.declared.Layout.the-variants.{V2}
-use Rattle.layout.specs.Maps.{shift, v2WidthOf}
+use Rattle.layout.specs.Maps.{shift}
 use Rattle.layout.specs.Exists.{fed, v2OddsBelowOf}
 use Rattle.columns.specs.Turns.{odd}
 use Rattle.apply_auxiliary_rows.proofs.Columns.{columns-none}
@@ -25,8 +25,8 @@ use Rattle.apply_auxiliary_rows.proofs.v2.v2_odds.Tie as tie
 abbrev entry : tie.After-at → tie.Start
 entry f = f .before .before .before .before .before .before .before
 
-abbrev at-of : tie.After-v2-width → tie.After-at
-at-of o = o .before .before .before .before .before
+abbrev at-of : tie.Else1 → tie.After-at
+at-of o = o .before .before .before .before
 
 -- the view has the row, it starts at `at`, and it lies in the view's plane
 there : (f : tie.After-at) → let a = entry f .args in (a .row < a .w .height) × (f .at .given .0 .0 ≡ a .row * a .w .«luma_stride»)
@@ -36,7 +36,7 @@ view-row : (f : tie.After-at) → let a = entry f .args in f .at .given .0 .0 + 
 view-row f = let s = entry f in omega (arith, there f .1, row-fits (lumaOf (s .args .w)) _ (s .args .row) (s .pre .1 .1) (there f .0) .0)
 
 -- one column bounds the odd columns
-stops : (l : tie.After-least) → let a = entry (l .before .before .before) .args in l .least .result ≡ min (a .right) (v2OddsBelowOf (a .w .width))
+stops : (l : tie.After-least) → let a = entry (l .before .before .before) .args in l .least .result ≡ min (a .right) (v2OddsBelowOf (a .wide) (a .w .width))
 stops l = let a = entry (l .before .before .before) .args in l .least .ensures ∙ ap (λ (m : ℕ). min (a .right) m) (l .before .v2-odds-below .ensures)
 
 -- the planes' lengths fit in the machine word
@@ -44,44 +44,43 @@ fit : (s : tie.Start) → let fits : ℕ → Type 0 = λ n. n < 1844674407370955
 fit s = (search needs, search needs)
 
 -- what is read lies in the view's row, V's half as well as U's
-in-view : (o : tie.After-v2-width)
-    → let l = o .before .before in
+in-view : (o : tie.Else1)
+    → let l = o .before in
     let f = at-of o in
     let m : ℕ = length (now (entry f .args .vy)) in
-    (f .at .given .0 .0 + l .least .result / 2 ≤ m) × (f .at .given .0 .0 + o .v2-width .result / 2 + l .least .result / 2 ≤ m) × (m < 18446744073709551616)
+    (f .at .given .0 .0 + l .least .result / 2 ≤ m) × (f .at .given .0 .0 + entry f .args .wide / 2 + l .least .result / 2 ≤ m) × (m < 18446744073709551616)
 in-view o =
-    let l = o .before .before in
+    let l = o .before in
     let f = at-of o in
     let s = entry f in
     let a = s .args in
     let stop = stops l in
-    let half = odds-seen (f .at .given .0 .0) (a .w .«luma_stride») _ (a .w .width) (v2WidthOf (a .w .width) / 2) (l .least .result) (view-row f) (s .pre .1 .1 .wide) (omega (arith, o .before .if1 .left)) (omega arith) in
-    (omega arith, omega (arith, o .v2-width .ensures), fit s .1)
+    let half = odds-seen (f .at .given .0 .0) (a .w .«luma_stride») _ (a .w .width) (a .wide / 2) (l .least .result) (view-row f) (s .pre .1 .1 .wide) (omega (arith, o .if1 .left)) (omega arith) in
+    (omega arith, half, fit s .1)
 
 -- what is written lies in the picture's planes
 in-planes : (n : tie.After-stride)
-    → let l = n .before .before .before in
+    → let l = n .before .before in
     let a = entry (at-of (n .before)) .args in
     let end : ℕ = a .row * n .stride .result + l .least .result in
     (a .left ≤ l .least .result) × (end ≤ length (now (a .u))) × (end ≤ length (now (a .v))) × (end < 18446744073709551616)
 in-planes n =
-    let l = n .before .before .before in
+    let l = n .before .before in
     let s = entry (at-of (n .before)) in
     let a = s .args in
     let below : l .least .result ≤ a .right = omega (arith, stops l) in
     let in-u = area-room (a .size) (now (a .u)) (a .row) _ _ (s .pre .0) _ (n .stride .ensures .0) _ below in
     let in-v = area-room (a .size) (now (a .v)) (a .row) _ _ (s .pre .1 .0) _ (n .stride .ensures .0) _ below in
-    (omega (arith, n .before .before .if1 .left), in-u, in-v, omega (arith, fit s .0))
+    (omega (arith, n .before .if1 .left), in-u, in-v, omega (arith, fit s .0))
 
 -- where each half of the row starts
-own-u : (f : tie.After-at) → let a = entry f .args in f .at .given .0 .0 ≡ a .row * a .w .«luma_stride» + shift CU (v2WidthOf (a .w .width) / 2)
+own-u : (f : tie.After-at) → let a = entry f .args in f .at .given .0 .0 ≡ a .row * a .w .«luma_stride» + shift CU (a .wide / 2)
 own-u f = omega (arith, there f .1)
 
-own-v : (o : tie.After-v2-width)
-    → let f = at-of o in
-    let a = entry f .args in
-    f .at .given .0 .0 + o .v2-width .result / 2 ≡ a .row * a .w .«luma_stride» + shift CV (v2WidthOf (a .w .width) / 2)
-own-v o = λ i. there (at-of o) .1 i + o .v2-width .ensures i / 2
+own-v : (f : tie.After-at)
+    → let a = entry f .args in
+    f .at .given .0 .0 + a .wide / 2 ≡ a .row * a .w .«luma_stride» + shift CV (a .wide / 2)
+own-v f = ap (λ (m : ℕ). m + entry f .args .wide / 2) (there f .1)
 
 cast-row-start : tie.Need-cast-row-start
 cast-row-start c = search needs
@@ -99,8 +98,8 @@ returns : tie.Need-returns
 returns c =
     let a = c .before .before .before .before .before .before .before .args in
     let late = rowStart-absent _ _ _ (c .before .before .row-start .ensures) (c .enum-told .given .1) in
-    let none : (k : ℕ) → a .left ≤ k → k < a .right → (fed V2 (a .w .width) (a .w .height) (a .row) k && odd k) ≡ true → ⊥ =
-    λ k l h e. omega (arith, late, v2-odds-facts (a .w) (a .row) k e) in
+    let none : (k : ℕ) → a .left ≤ k → k < a .right → (fed (V2 (a .wide)) (a .w .width) (a .w .height) (a .row) k && odd k) ≡ true → ⊥ =
+    λ k l h e. omega (arith, late, v2-odds-facts (a .wide) (a .w) (a .row) k e) in
     (λ vu vv. columns-none _ _ (a .row) (a .left) _ (a .right) _ _ none, λ vu vv. columns-none _ _ (a .row) (a .left) _ (a .right) _ _ none)
 
 v2-odds-below-requires : tie.Need-v2-odds-below-requires
@@ -113,12 +112,9 @@ returns-2 : tie.Need-returns-2
 returns-2 c =
     let l = c .before in
     let a = entry (l .before .before .before) .args in
-    let none : (k : ℕ) → a .left ≤ k → k < a .right → (fed V2 (a .w .width) (a .w .height) (a .row) k && odd k) ≡ true → ⊥ =
-    λ k low h e. omega (arith, c .if1 .taken, stops l, v2-odds-facts (a .w) (a .row) k e) in
+    let none : (k : ℕ) → a .left ≤ k → k < a .right → (fed (V2 (a .wide)) (a .w .width) (a .w .height) (a .row) k && odd k) ≡ true → ⊥ =
+    λ k low h e. omega (arith, c .if1 .taken, stops l, v2-odds-facts (a .wide) (a .w) (a .row) k e) in
     (λ vu vv. columns-none _ _ (a .row) (a .left) _ (a .right) _ _ none, λ vu vv. columns-none _ _ (a .row) (a .left) _ (a .right) _ _ none)
-
-v2-width-requires : tie.Need-v2-width-requires
-v2-width-requires c κs = search needs
 
 add-half : tie.Need-add-half
 add-half c = omega (arith, in-view c)
@@ -165,7 +161,7 @@ put-odds-requires c κs =
     let o = n .before in
     let f = at-of o in
     let p = entry f .pre .0 in
-    odds-fit _ _ _ _ (in-planes n .1) (p .even-left) (omega (arith, p .even-right, stops (o .before .before))) (in-planes n .0) _ _ (omega (arith, in-view o))
+    odds-fit _ _ _ _ (in-planes n .1) (p .even-left) (omega (arith, p .even-right, stops (o .before))) (in-planes n .0) _ _ (omega (arith, in-view o))
 
 -- the second call comes after the first
 abbrev stride-of : tie.After-slice-known3 → tie.After-stride
@@ -207,7 +203,7 @@ put-odds-requires-2 c κs =
     let o = n .before in
     let f = at-of o in
     let p = entry f .pre .0 in
-    odds-fit _ _ _ _ (in-planes n .2) (p .even-left) (omega (arith, p .even-right, stops (o .before .before))) (in-planes n .0) _ _ (omega (arith, in-view o))
+    odds-fit _ _ _ _ (in-planes n .2) (p .even-left) (omega (arith, p .even-right, stops (o .before))) (in-planes n .0) _ _ (omega (arith, in-view o))
 
 same-length : tie.Need-same-length
 same-length c = search needs
@@ -222,15 +218,15 @@ returns-3 c =
     let cu = m .before .before in
     let n = stride-of m in
     let o = n .before in
-    let l = o .before .before in
+    let l = o .before in
     let f = at-of o in
     let s = entry f in
     let a = s .args in
     let p = s .pre in (
       λ vu vv. v2-odds-written CU (a .size) (a .w) (now (a .vy)) vu vv (now (a .u)) (cu .put-odds .last .0) (a .row) (a .left) (a .right) (l .least .result) (n .stride .result) _ (p .0) (n .stride .ensures .0) (in-planes n .0)
-          (there f .0) (own-u f) (stops l) (cu .put-odds .ensures),
+          (a .wide) (there f .0) (own-u f) (stops l) (cu .put-odds .ensures),
       λ vu vv. v2-odds-written CV (a .size) (a .w) (now (a .vy)) vu vv (now (a .v)) (cv .put-odds2 .last .0) (a .row) (a .left) (a .right) (l .least .result) (n .stride .result) _ (p .1 .0) (n .stride .ensures .0) (in-planes n .0)
-          (there f .0) (own-v o) (stops l) (cv .put-odds2 .ensures),
+          (a .wide) (there f .0) (own-v f) (stops l) (cv .put-odds2 .ensures),
     )
 
 pub v2-odds-spec : {M : Type 1} → statement M
@@ -245,7 +241,6 @@ v2-odds-spec =
     v2-odds-below-requires
     least-requires
     returns-2
-    v2-width-requires
     add-half
     stride-requires
     mul-line

@@ -43,9 +43,9 @@ returns c =
     let vu = now (a .vu) in
     let vv = now (a .vv) in
     let mid = g .v2-together .ensures .0 in (
-      columns-row _ _ (a .row) (a .left) (g .v2-together .result) (a .right) _ odd even (auxiliarySource V2 CU (a .w) vy vu vv) (now (a .u)) (mid .0) (mid .1) either-kind
+      columns-row _ _ (a .row) (a .left) (g .v2-together .result) (a .right) _ odd even (auxiliarySource (V2 (a .wide)) CU (a .w) vy vu vv) (now (a .u)) (mid .0) (mid .1) either-kind
           (g .v2-together .ensures .1 .0) (o .v2-odds .ensures .0 vu vv) (e .v2-evens .ensures .0 vy),
-      columns-row _ _ (a .row) (a .left) (g .v2-together .result) (a .right) _ odd even (auxiliarySource V2 CV (a .w) vy vu vv) (now (a .v)) (mid .0) (mid .1) either-kind
+      columns-row _ _ (a .row) (a .left) (g .v2-together .result) (a .right) _ odd even (auxiliarySource (V2 (a .wide)) CV (a .w) vy vu vv) (now (a .v)) (mid .0) (mid .1) either-kind
           (g .v2-together .ensures .1 .1) (o .v2-odds .ensures .1 vu vv) (e .v2-evens .ensures .1 vy),
     )
 

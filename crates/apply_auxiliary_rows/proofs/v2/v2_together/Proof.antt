@@ -11,7 +11,7 @@ use Rattle.lent.specs.Sizes.{halfUp}
 use Rattle.lent.proofs.Cells.{row-in}
 use Rattle.view.proofs.Starts.{rowStart-at}
 use Rattle.layout.specs.declared.Chroma.the-variants.{CU, CV}
-use Rattle.layout.specs.Maps.{shift, v2WidthOf}
+use Rattle.layout.specs.Maps.{shift}
 use Rattle.layout.specs.Exists.{v2OddsBelowOf}
 use Rattle.apply_auxiliary_rows.proofs.Columns.{columns-none}
 use Rattle.apply_auxiliary_rows.proofs.Area.{area-room, odds-fit, evens-fit}
@@ -30,14 +30,14 @@ entry t = t .before .before .before .before .before .before .before .before .bef
 abbrev luma-of : tie.After-chroma → tie.After-luma
 luma-of f = f .before .before .before .before .before
 
-abbrev chroma-of : tie.After-v2-width → tie.After-chroma
-chroma-of o = o .before .before
+abbrev chroma-of : tie.After-known-told2 → tie.After-chroma
+chroma-of o = o .before
 
 -- the row is odd, and one column bounds what is written
 by-odd : (t : tie.Else2) → entry t .args .row % 2 ≡ 1
 by-odd t = omega (arith, t .before .before .before .if1 .left)
 
-stops : (t : tie.Else2) → let a = entry t .args in t .before .least .result ≡ min (a .right) (v2OddsBelowOf (a .w .width))
+stops : (t : tie.Else2) → let a = entry t .args in t .before .least .result ≡ min (a .right) (v2OddsBelowOf (a .wide) (a .w .width))
 stops t = let a = entry t .args in t .before .least .ensures ∙ ap (λ (m : ℕ). min (a .right) m) (t .before .before .v2-odds-below .ensures)
 
 -- both rows exist, with their starts
@@ -61,60 +61,58 @@ chroma-row f m long =
     omega (arith, chroma-there f .1, row-in (s .args .w .«chroma_stride») _ (s .args .row / 2) (chroma-there f .0), long)
 
 -- what is read is there, V's halves as well as U's
-luma-seen : (o : tie.After-v2-width)
-    → let f = luma-of (chroma-of o) in
-    let t = tested f in
-    f .luma .given .0 .0 + o .v2-width .result / 2 + t .before .least .result / 2 ≤ length (now (entry t .args .vy))
-luma-seen o =
-    let f = luma-of (chroma-of o) in
-    let t = tested f in
-    let s = entry t in
-    let w = s .args .w in
-    let half = odds-seen (f .luma .given .0 .0) (w .«luma_stride») _ (w .width) (v2WidthOf (w .width) / 2) (t .before .least .result) (luma-row f) (s .pre .1 .1 .luma-wide)
-    (omega (arith, t .if2 .left))
-    (omega (arith, stops t)) in
-    omega (arith, o .v2-width .ensures)
-
-chroma-seen : (o : tie.After-v2-width) (m : ℕ)
-    → let f = chroma-of o in
-    let t = tested (luma-of f) in
+luma-seen : (f : tie.After-luma)
+    → let t = tested f in
     let a = entry t .args in
-    halfUp (a .w .height) * a .w .«chroma_stride» ≤ m → f .chroma .given .0 .0 + o .v2-width .result / 4 + (t .before .least .result / 2 + 1) / 2 ≤ m
-chroma-seen o m long =
-    let f = chroma-of o in
+    f .luma .given .0 .0 + a .wide / 2 + t .before .least .result / 2 ≤ length (now (a .vy))
+luma-seen f =
+    let t = tested f in
+    let s = entry t in
+    let w = s .args .w in
+    odds-seen (f .luma .given .0 .0) (w .«luma_stride») _ (w .width) (s .args .wide / 2) (t .before .least .result) (luma-row f) (s .pre .1 .1 .luma-wide)
+    (omega (arith, t .if2 .left))
+    (omega (arith, stops t))
+
+chroma-seen : (f : tie.After-chroma) (m : ℕ)
+    → let t = tested (luma-of f) in
+    let a = entry t .args in
+    halfUp (a .w .height) * a .w .«chroma_stride» ≤ m → f .chroma .given .0 .0 + a .wide / 4 + (t .before .least .result / 2 + 1) / 2 ≤ m
+chroma-seen f m long =
     let t = tested (luma-of f) in
     let s = entry t in
     let w = s .args .w in
-    let half = evens-seen (f .chroma .given .0 .0) (w .«chroma_stride») m (halfUp (w .width)) (v2WidthOf (w .width) / 4) (t .before .least .result) (chroma-row f m long) (s .pre .1 .1 .chroma-wide)
+    evens-seen (f .chroma .given .0 .0) (w .«chroma_stride») m (halfUp (w .width)) (s .args .wide / 4) (t .before .least .result) (chroma-row f m long) (s .pre .1 .1 .chroma-wide)
     (omega (arith, t .if2 .left))
-    (omega (arith, stops t, odds-below-evens (w .width))) in
-    omega (arith, o .v2-width .ensures)
+    (omega (arith, stops t, odds-below-evens (s .args .wide) (w .width)))
 
 -- the planes' lengths fit in the machine word
 fit : (s : tie.Start) → let fits : ℕ → Type 0 = λ n. n < 18446744073709551616 in fits (length (now (s .args .u))) × fits (length (now (s .args .vy))) × fits (length (now (s .args .vu)))
 fit s = (search needs, search needs, search needs)
 
-in-luma : (o : tie.After-v2-width)
+in-luma : (o : tie.After-known-told2)
     → let f = luma-of (chroma-of o) in
     let t = tested f in
-    let end : ℕ = f .luma .given .0 .0 + o .v2-width .result / 2 + t .before .least .result / 2 in
-    (end ≤ length (now (entry t .args .vy))) × (end < 18446744073709551616) × (entry t .args .left ≤ t .before .least .result)
+    let a = entry t .args in
+    let end : ℕ = f .luma .given .0 .0 + a .wide / 2 + t .before .least .result / 2 in
+    (end ≤ length (now (a .vy))) × (end < 18446744073709551616) × (a .left ≤ t .before .least .result)
 in-luma o =
-    let t = tested (luma-of (chroma-of o)) in
-    (luma-seen o, omega (arith, luma-seen o, fit (entry t)), omega (arith, t .if2 .left))
+    let f = luma-of (chroma-of o) in
+    let t = tested f in
+    (luma-seen f, omega (arith, luma-seen f, fit (entry t)), omega (arith, t .if2 .left))
 
 -- both chroma planes have what is read, in whatever order they are handed on
-in-chroma : (o : tie.After-v2-width)
+in-chroma : (o : tie.After-known-told2)
     → let f = chroma-of o in
     let t = tested (luma-of f) in
     let a = entry t .args in
-    let end : ℕ = f .chroma .given .0 .0 + o .v2-width .result / 4 + (t .before .least .result / 2 + 1) / 2 in
+    let end : ℕ = f .chroma .given .0 .0 + a .wide / 4 + (t .before .least .result / 2 + 1) / 2 in
     (end ≤ length (now (a .vu))) × (end ≤ length (now (a .vv))) × (end < 18446744073709551616) × (a .left ≤ t .before .least .result)
 in-chroma o =
-    let t = tested (luma-of (chroma-of o)) in
+    let f = chroma-of o in
+    let t = tested (luma-of f) in
     let p = entry t .pre .1 .1 in
-    let in-u = chroma-seen o _ (p .u-long) in
-    (in-u, chroma-seen o _ (p .v-long), omega (arith, in-u, fit (entry t)), omega (arith, t .if2 .left))
+    let in-u = chroma-seen f _ (p .u-long) in
+    (in-u, chroma-seen f _ (p .v-long), omega (arith, in-u, fit (entry t)), omega (arith, t .if2 .left))
 
 -- what is written lies in the picture's planes
 in-planes : (n : tie.After-stride)
@@ -136,24 +134,22 @@ none : (s : tie.Start) → let a = s .args in (a .left ≤ a .left) × (a .left 
 none s = (omega arith, s .pre .0 .ordered, s .pre .0 .even-left)
 
 -- where each half of the rows starts
-own-luma-u : (f : tie.After-luma) → let a = entry (tested f) .args in f .luma .given .0 .0 ≡ a .row * a .w .«luma_stride» + shift CU (v2WidthOf (a .w .width) / 2)
+own-luma-u : (f : tie.After-luma) → let a = entry (tested f) .args in f .luma .given .0 .0 ≡ a .row * a .w .«luma_stride» + shift CU (a .wide / 2)
 own-luma-u f = omega (arith, luma-there f .1)
 
-own-luma-v : (o : tie.After-v2-width)
-    → let f = luma-of (chroma-of o) in
-    let a = entry (tested f) .args in
-    f .luma .given .0 .0 + o .v2-width .result / 2 ≡ a .row * a .w .«luma_stride» + shift CV (v2WidthOf (a .w .width) / 2)
-own-luma-v o = λ i. luma-there (luma-of (chroma-of o)) .1 i + o .v2-width .ensures i / 2
+own-luma-v : (f : tie.After-luma)
+    → let a = entry (tested f) .args in
+    f .luma .given .0 .0 + a .wide / 2 ≡ a .row * a .w .«luma_stride» + shift CV (a .wide / 2)
+own-luma-v f = ap (λ (m : ℕ). m + entry (tested f) .args .wide / 2) (luma-there f .1)
 
 own-chroma-u : (f : tie.After-chroma)
-    → let a = entry (tested (luma-of f)) .args in f .chroma .given .0 .0 ≡ a .row / 2 * a .w .«chroma_stride» + shift CU (v2WidthOf (a .w .width) / 4)
+    → let a = entry (tested (luma-of f)) .args in f .chroma .given .0 .0 ≡ a .row / 2 * a .w .«chroma_stride» + shift CU (a .wide / 4)
 own-chroma-u f = omega (arith, chroma-there f .1)
 
-own-chroma-v : (o : tie.After-v2-width)
-    → let f = chroma-of o in
-    let a = entry (tested (luma-of f)) .args in
-    f .chroma .given .0 .0 + o .v2-width .result / 4 ≡ a .row / 2 * a .w .«chroma_stride» + shift CV (v2WidthOf (a .w .width) / 4)
-own-chroma-v o = λ i. chroma-there (chroma-of o) .1 i + o .v2-width .ensures i / 4
+own-chroma-v : (f : tie.After-chroma)
+    → let a = entry (tested (luma-of f)) .args in
+    f .chroma .given .0 .0 + a .wide / 4 ≡ a .row / 2 * a .w .«chroma_stride» + shift CV (a .wide / 4)
+own-chroma-v f = ap (λ (m : ℕ). m + entry (tested (luma-of f)) .args .wide / 4) (chroma-there f .1)
 
 returns : tie.Need-returns
 returns c =
@@ -204,9 +200,6 @@ returns-4 : tie.Need-returns-4
 returns-4 c =
     let start = entry (tested (c .before .before .before .before .before)) in
     (none start, (columns-none _ _ _ _ _ _ _ _ (λ k low h e. omega arith), columns-none _ _ _ _ _ _ _ _ (λ k low h e. omega arith)))
-
-v2-width-requires : tie.Need-v2-width-requires
-v2-width-requires c κs = search needs
 
 add-half : tie.Need-add-half
 add-half c = omega (arith, in-luma c)
@@ -385,8 +378,7 @@ returns-5 c =
     let m = cv .before .before .before .before .before in
     let cu = m .before .before in
     let n = stride-of m in
-    let o = n .before in
-    let f = chroma-of o in
+    let f = chroma-of (n .before) in
     let g = luma-of f in
     let t = tested g in
     let s = entry t in
@@ -395,9 +387,9 @@ returns-5 c =
       (in-planes n .0, omega (arith, stops t), omega (arith, p .0 .even-right, stops t)),
       (
         v2-all-written CU (a .size) (a .w) (now (a .vy)) (now (a .vu)) (now (a .vv)) (now (a .u)) (cu .put-full .last .0) (a .row) (a .left) (a .right) (t .before .least .result) (n .stride .result) _ (p .0) (n .stride .ensures .0) (in-planes n .0)
-            (f .chroma .given .0 .0) (by-odd t) (luma-there g .0) (chroma-there f .0) (own-luma-u g) (own-chroma-u f) (stops t) (cu .put-full .ensures),
+            (a .wide) (f .chroma .given .0 .0) (by-odd t) (luma-there g .0) (chroma-there f .0) (own-luma-u g) (own-chroma-u f) (stops t) (cu .put-full .ensures),
         v2-all-written CV (a .size) (a .w) (now (a .vy)) (now (a .vu)) (now (a .vv)) (now (a .v)) (cv .put-full2 .last .0) (a .row) (a .left) (a .right) (t .before .least .result) (n .stride .result) _ (p .1 .0) (n .stride .ensures .0) (in-planes n .0)
-            (f .chroma .given .0 .0 + o .v2-width .result / 4) (by-odd t) (luma-there g .0) (chroma-there f .0) (own-luma-v o) (own-chroma-v o) (stops t) (cv .put-full2 .ensures),
+            (a .wide) (f .chroma .given .0 .0 + a .wide / 4) (by-odd t) (luma-there g .0) (chroma-there f .0) (own-luma-v g) (own-chroma-v f) (stops t) (cv .put-full2 .ensures),
       ),
     )
 
@@ -419,7 +411,6 @@ v2-together-spec =
     enum-known-chroma
     enum-told-2
     returns-4
-    v2-width-requires
     add-half
     add-quarter
     add-to

@@ -16,14 +16,14 @@ use Rattle.split_views.proofs.auxiliary.luma.Statement.{statement}
 use Rattle.split_views.proofs.auxiliary.luma.Tie as tie
 
 abbrev Inv-loop : tie.InvT-loop
-Inv-loop layout out₀ u v stride rows row₀ out row = (row ≤ rows) × (length out ≡ length out₀) × (out ≡ painted stride rows (upTo whole row) (auxiliarySample layout stride u v PY) out₀)
+Inv-loop layout out₀ u v stride wide rows row₀ out row = (row ≤ rows) × (length out ≡ length out₀) × (out ≡ painted wide rows (upTo whole row) (auxiliarySample layout stride u v PY) out₀)
 
 abbrev μ-loop : tie.MeasureT-loop
-μ-loop layout out₀ u v stride rows row₀ out row = rows - row
+μ-loop layout out₀ u v stride wide rows row₀ out row = rows - row
 
 -- the row that is written is within the output
-room : (s : tie.Start Inv-loop μ-loop) (row : ℕ) → row < s .args .rows → row * (s .args .stride) + (s .args .stride) ≤ length (s .args .out .now)
-room s row lt = omega (arith, row-in (s .args .stride) (s .args .rows) row lt, s .pre .0)
+room : (s : tie.Start Inv-loop μ-loop) (row : ℕ) → row < s .args .rows → row * s .args .wide + s .args .wide ≤ length (s .args .out .now)
+room s row lt = omega (arith, row-in (s .args .wide) (s .args .rows) row lt, s .pre .0)
 
 loop-holds : tie.Need-loop-holds Inv-loop μ-loop
 loop-holds c = (omega arith, refl, whole-none _ _ _ _)
@@ -50,7 +50,8 @@ luma-row-requires c κs =
     let a = s .args in
     let le : l .loop .row - l .loop .row % 16 + 16 ≤ a .rows = omega (arith, s .pre .1 .0 .high) in
     let blocks = mul-le-mul-right (a .stride) le in
-    (search needs, (s .pre .1 .0 .wide, (le-trans blocks (s .pre .1 .0 .fits), le-trans blocks (s .pre .1 .1 .fits))))
+    let q = s .pre .1 in
+    (search needs, (q .1 .1 .0, (q .1 .1 .1, (q .0 .wide, (le-trans blocks (q .0 .fits), le-trans blocks (q .1 .0 .fits))))))
 
 add-row : tie.Need-add-row Inv-loop μ-loop
 add-row c = omega arith
@@ -63,7 +64,7 @@ loop-again c =
     let p = c .before .before in
     let l = p .before .before .before in
     let s = l .before .before .before .before in
-    let next = whole-more (s .args .stride) (s .args .rows) _ (s .args .out .now) (l .loop .row) (omega arith) (s .pre .0) (l .loop .inv .2) (p .luma-row .ensures) refl in
+    let next = whole-more (s .args .wide) (s .args .rows) _ (s .args .out .now) (l .loop .row) (omega arith) (s .pre .0) (l .loop .inv .2) (p .luma-row .ensures) refl in
     (omega arith, ap length next ∙ length-painted _ _ _ _ _, next)
 
 same-length : tie.Need-same-length Inv-loop μ-loop

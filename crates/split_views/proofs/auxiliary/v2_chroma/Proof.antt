@@ -13,14 +13,14 @@ use Rattle.split_views.proofs.auxiliary.v2_chroma.Statement.{statement}
 use Rattle.split_views.proofs.auxiliary.v2_chroma.Tie as tie
 
 abbrev Inv-loop : tie.InvT-loop
-Inv-loop out₀ u v stride rows first half high row₀ out row = (row ≤ (rows / 2)) × (length out ≡ length out₀) × (out ≡ painted (stride / 2) (rows / 2) (upTo whole row) (λ r. v2ChromaSample stride u v first (2 * r + 1)) out₀)
+Inv-loop out₀ u v stride wide rows first half high row₀ out row = (row ≤ (rows / 2)) × (length out ≡ length out₀) × (out ≡ painted (wide / 2) (rows / 2) (upTo whole row) (λ r. v2ChromaSample wide stride u v first (2 * r + 1)) out₀)
 
 abbrev μ-loop : tie.MeasureT-loop
-μ-loop out₀ u v stride rows first half high row₀ out row = (rows / 2) - row
+μ-loop out₀ u v stride wide rows first half high row₀ out row = (rows / 2) - row
 
 -- the row that is written is within the output
-room : (s : tie.Start Inv-loop μ-loop) (row : ℕ) → row < (s .args .rows / 2) → row * (s .args .stride / 2) + (s .args .stride / 2) ≤ length (s .args .out .now)
-room s row lt = omega (arith, row-in (s .args .stride / 2) (s .args .rows / 2) row lt, s .pre .0)
+room : (s : tie.Start Inv-loop μ-loop) (row : ℕ) → row < (s .args .rows / 2) → row * (s .args .wide / 2) + (s .args .wide / 2) ≤ length (s .args .out .now)
+room s row lt = omega (arith, row-in (s .args .wide / 2) (s .args .rows / 2) row lt, s .pre .0)
 
 loop-holds : tie.Need-loop-holds Inv-loop μ-loop
 loop-holds c = (omega arith, refl, whole-none _ _ _ _)
@@ -52,7 +52,8 @@ v2-chroma-row-requires c κs =
     let s = l .before .before .before .before in
     let a = s .args in
     let inside = row-in (a .stride) (a .rows) (2 * l .loop .row + 1) (omega (arith, s .pre .1 .0 .high)) in
-    (omega (arith, s .pre .1 .0 .wide), (s .pre .1 .0 .wide, (omega (arith, inside, s .pre .1 .0 .fits), (omega (arith, inside, s .pre .1 .1 .0 .fits), s .pre .1 .1 .1))))
+    let q = s .pre .1 in
+    (omega (arith, q .1 .1 .0 .fours), (q .1 .1 .0, (q .0 .wide, (omega (arith, inside, q .0 .fits), (omega (arith, inside, q .1 .0 .fits), q .1 .1 .1)))))
 
 add-row : tie.Need-add-row Inv-loop μ-loop
 add-row c = omega arith
@@ -65,7 +66,7 @@ loop-again c =
     let p = c .before .before in
     let l = p .before .before .before in
     let s = l .before .before .before .before in
-    let next = whole-more (s .args .stride / 2) (s .args .rows / 2) _ (s .args .out .now) (l .loop .row) (omega arith) (s .pre .0) (l .loop .inv .2) (p .v2-chroma-row .ensures) refl in
+    let next = whole-more (s .args .wide / 2) (s .args .rows / 2) _ (s .args .out .now) (l .loop .row) (omega arith) (s .pre .0) (l .loop .inv .2) (p .v2-chroma-row .ensures) refl in
     (omega arith, ap length next ∙ length-painted _ _ _ _ _, next)
 
 same-length : tie.Need-same-length Inv-loop μ-loop

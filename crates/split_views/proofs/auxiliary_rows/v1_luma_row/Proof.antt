@@ -2,7 +2,7 @@
 -- macroblock.
 -- Assumes nothing.
 use borrow.Author.Needs.{needs}
-use Prim.Native.Nat.{ℕ, _+_, _-_, _*_, _%_}
+use Prim.Native.Nat.{ℕ, _+_, _-_, _%_}
 use native.Mathlib.Nat.{le-trans}
 use native.Mathlib.Omega.{arith}
 use mathlib.Core.Path.{refl, _∙_}
@@ -39,7 +39,7 @@ returns : tie.Need-returns
 returns c =
     let p = c .before .before in
     let a = c .before .before .before .before .before .before .before .before .args in
-    p .copy-row .ensures ∙ paint-ext every every _ _ (a .out .now) (λ k h. refl) (λ k h e. v1-u-row (a .stride) (a .u .now) (a .v .now) (a .row) k (omega arith))
+    p .copy-row .ensures ∙ paint-ext every every _ _ (a .out .now) (λ k h. refl) (λ k h e. v1-u-row (a .stride) (a .u .now) (a .v .now) (a .row) k (omega arith) (omega arith))
 
 mul-copy-row-2 : tie.Need-mul-copy-row-2
 mul-copy-row-2 c = search needs
@@ -64,7 +64,7 @@ returns-2 : tie.Need-returns-2
 returns-2 c =
     let p = c .before .before in
     let a = c .before .before .before .before .before .before .before .before .args in
-    p .copy-row2 .ensures ∙ paint-ext every every _ _ (a .out .now) (λ k h. refl) (λ k h e. v1-v-row (a .stride) (a .u .now) (a .v .now) (a .row) k (omega arith))
+    p .copy-row2 .ensures ∙ paint-ext every every _ _ (a .out .now) (λ k h. refl) (λ k h e. v1-v-row (a .stride) (a .u .now) (a .v .now) (a .row) k (omega arith) (omega arith))
 
 pub v1-luma-row-spec : {M : Type 1} → statement M
 v1-luma-row-spec =
