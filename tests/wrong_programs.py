@@ -34,6 +34,10 @@ import tempfile
 FACTS = re.compile(r'(returns|loop-holds|loop-again)(-\d+)?$')
 SHAPE = ('has no `Need-', 'expected type `tie.Need-', 'no occurrence of', 'not in scope', 'is not exported', 'can be named from here',
          'was not admitted', 'has no field')
+# The places of a function's code, as the records that a proof goes through have them: where two of them differ, its paths lead elsewhere.
+PLACES = re.compile(r'(?:one|other) has `\(?\S*\.Lts\.(?:Start\b|(?:After|At|In)-|(?:Then|Else)\d)')
+# A sentence of a message goes on in the next line after a long text; the two types in full, which come after it, are no part of it.
+GOES_ON = re.compile(r'(?<=`)\n  (?=\S)(?!expected type |but this has type )')
 
 
 class Wrong:
@@ -102,14 +106,19 @@ def function_naming(crate, constant):
     return function_of(crate, *lines[0]) if len(lines) == 1 else None
 
 
+def is_shape(message):
+    """Whether a message says that a proof's text does not fit the code, and so nothing of a fact."""
+    return any(s in message for s in SHAPE) or PLACES.search(message) is not None
+
+
 def refusals(log, crate_name):
     """What a log refuses: (place, need) and whether it shows the fact's failure or only the shape of a proof."""
     found = {}
-    for line in log.split('\n'):
+    for line in GOES_ON.sub(' ', log).split('\n'):
         error = re.match(r'\S*/(?:proofs|specs)/(\S+?)\.antt:\d+:\d+: error: `([^`]+)`: (.*)', line)
         if error:
             place = re.sub(r'/Proof$', '', error[1])
-            found[place, error[2]] = found.get((place, error[2]), False) or not any(s in error[3] for s in SHAPE)
+            found[place, error[2]] = found.get((place, error[2]), False) or not is_shape(error[3])
         made = re.match(r'fn ' + crate_name + r'::(\S+): no proof: .*? does not close (.*)', line)
         if made:
             for need in re.findall(r'`([^`]+)`', made[2]):
@@ -193,10 +202,29 @@ def counted(root, every):
 
 # ---- the self-test: a crate of small functions
 
+PROOF = '''use native.Mathlib.Omega.{{arith}}
+use Prim.Native.Nat.{{_≤_}}
+use Rattle.small.proofs.{0}.Statement.{{statement}}
+use Rattle.small.proofs.{0}.Tie as tie
+
+returns : tie.Need-returns
+returns c = omega arith
+
+{2}returns-2 : tie.Need-returns-2
+returns-2 c = {3}
+
+pub {1}-spec : {{M : Type 1}} → statement M
+{1}-spec = tie.close (tie.spec returns returns-2)
+'''
+BELOW = '''below : (c : tie.Else1) → c .before .args .a ≤ 10
+below c = omega (arith, c .if1 .left)
+
+'''
+DOZEN_NAME = 'at_least_the_dozen_that_was_asked_for'
 CRATE = {
     'crates.txt': 'small:\n',
     'crates/small/src/lib.rt': '''ghost use mathlib.Core.Path.{_≡_};
-ghost use Prim.Native.Nat.{_+_, _<_, min};
+ghost use Prim.Native.Nat.{_+_, _<_, _≤_, min};
 ghost use lib.ListN.{length, getD};
 
 pub fn least(a: u64, b: u64) -> u64
@@ -226,7 +254,27 @@ pub fn nine() -> u64
 {
     NINE
 }
+
+pub fn at_least_10(a: u64) -> u64
+    ensures { λ r. ⌜ a ≤ r ⌝ }
+{
+    if 10 < a {
+        return a;
+    }
+    10
+}
+
+pub fn at_least_the_dozen_that_was_asked_for(a: u64) -> u64
+    ensures { λ r. ⌜ a ≤ r ⌝ }
+{
+    if 12 < a {
+        return a;
+    }
+    12
+}
 ''',
+    'crates/small/proofs/at_least_10/Proof.antt': PROOF.format('at_least_10', 'at-least-10', BELOW, 'below c'),
+    f'crates/small/proofs/{DOZEN_NAME}/Proof.antt': PROOF.format(DOZEN_NAME, DOZEN_NAME.replace('_', '-'), '', 'omega (arith, c .if1 .left)'),
 }
 
 
@@ -238,9 +286,11 @@ def text_of(*wrongs):
 LEAST = ('greatest', 'the smaller of the two', 'least returns', '    if a < b { a } else { b }', '    if a < b { b } else { a }')
 NEXT = ('same', 'one more', 'next returns', '    a + 1', '    a + 0')
 SECOND = ('first', 'the second byte', 'second returns', '    s[1]', '    s[0]')
+TEN = ('eight_for_ten', 'ten at least', 'at_least_10 returns-2', '    10', '    8')
+DOZEN = ('eight_for_twelve', 'a dozen at least', f'{DOZEN_NAME} returns-2', '    12', '    8')
 EIGHT = ('eight', 'nine', 'nine returns', 'const NINE: u64 = 9;', 'const NINE: u64 = 8;')
 CASES = {  # the edit, and what has to be said of it; nothing where it is as it should be
-    'all_wrong': (text_of(LEAST, NEXT, SECOND), None),
+    'all_wrong': (text_of(LEAST, NEXT, SECOND, TEN, DOZEN), None),
     'one_is_right': (text_of(LEAST, NEXT[:4] + ('    1 + a',), SECOND), 'same: not refused at next returns'),
     'another_need': (text_of(LEAST, NEXT[:2] + ('next add-result',) + NEXT[3:]), 'next add-result shows no fact'),
     'need_that_holds': (text_of(LEAST[:2] + ('least returns-3',) + LEAST[3:], NEXT), 'not refused at least returns-3'),
@@ -248,6 +298,8 @@ CASES = {  # the edit, and what has to be said of it; nothing where it is as it 
     'another_function': (text_of(LEAST[:2] + ('next returns',) + LEAST[3:]), 'promised at next'),
     'a_constant': (text_of(EIGHT, NEXT), None),
     'a_constant_of_another': (text_of(EIGHT[:2] + ('next returns',) + EIGHT[3:]), 'changes nine and is promised at next'),
+    'another_place': (text_of(TEN[:4] + ('    let n = nine(); 8',)), 'at_least_10 returns-2 only because the proof does not fit the code'),
+    'message_of_two_lines': (text_of(DOZEN[:4] + ('    let n = nine(); 8',)), 'only because the proof does not fit the code'),
     'no_comment': ('file: src/lib.rt\nold: {}\nnew: {}\n'.format(*LEAST[3:]), 'without a word'),
     'twice_one_function': (text_of(NEXT, ('none', 'one more', 'next returns', 'pub fn next(a: u64)', 'pub fn next(b: u64)')), 'as same does'),
 }
