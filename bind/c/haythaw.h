@@ -24,6 +24,10 @@
  *   widened   a rectangle with left and top rounded down to even, and right (at most the width) and bottom (at most the
  *             height) rounded up to even: the 2x2 blocks that it touches. An empty rectangle may widen to something:
  *             (5, 0, 5, 4) takes chroma columns 4 and 5.
+ *   W         the width by which the auxiliary view of AVC444v2 is laid out. The calls _v2 round to 16 (the 16 rule), the calls
+ *             _v2_32 round the picture's width up to 32 (the 32 rule): a width of 48 is 48 by the one, and 64 by the other. No
+ *             stream says which; it is the server's own. Chroma that was laid out by one W and is read by another is wrong. By the
+ *             16 rule W follows from the view's width, so hand over a view as wide as it was coded, neither cropped nor padded.
  *   RGBA      four bytes a pixel, row after row with nothing between.
  *   payload   (AVC444) what the wire carries, RFX_AVC444_BITMAP_STREAM of MS-RDPEGFX 2.2.4.5; V2 has the same frame. First a
  *             number of 32 bits: its low 30 bits are the size, its top two bits the kind (0 luma and chroma, 1 luma alone,
@@ -55,7 +59,7 @@ enum haythaw_number {
     HAYTHAW_RGBA_SHORT = 2,    /* RGBA input is shorter than width x height x 4 */
     HAYTHAW_VIEW_NARROW = 3,   /* a view's luma stride is below its width, or its chroma stride below its chroma width */
     HAYTHAW_VIEW_SHORT = 4,    /* a view's plane is shorter than its stride x its plane height, however large that product */
-    HAYTHAW_SPLIT_LARGE = 5,   /* split: stride or rows is above 65,535 */
+    HAYTHAW_SPLIT_LARGE = 5,   /* split: stride or rows is above 65,535, or W by the 32 rule */
     HAYTHAW_OUTPUT_SHORT = 6,  /* an output buffer is shorter than what would be written */
     HAYTHAW_LIST_UNEVEN = 7,   /* a list's length is not a multiple of 4, or its pairs are not two bytes for each rectangle */
     HAYTHAW_KIND_UNKNOWN = 8,  /* an AVC444 payload is of kind 3, or is to be written with a kind above 2 */
@@ -91,7 +95,8 @@ typedef struct haythaw_row {
 } haythaw_row;
 
 /* What both views of a picture are like: width is the picture's stride and height its rows, luma_stride the stride and
- * chroma_stride half of it. In a refusal all four are 0. It stands for a count that is always 0. */
+ * chroma_stride half of it; by the 32 rule W stands for the stride. In a refusal all four are 0. It stands for a count that is
+ * always 0. */
 typedef struct haythaw_views {
     uint32_t number;
     uint16_t width;
@@ -183,7 +188,7 @@ haythaw_pixels haythaw_to_rgba(uint16_t width, uint16_t height, const uint8_t *y
 
 /* ---- Views into a picture, within a list of rectangles ----
  *
- * All three answer 0, 1, 7, 3 or 4, in this order of refusals, and take what a view has: a sample that it lacks leaves the
+ * All four answer 0, 1, 7, 3 or 4, in this order of refusals, and take what a view has: a sample that it lacks leaves the
  * picture's as it was, and U and V of a place are taken together or not at all. The order of the list has no effect. An empty
  * list changes nothing. */
 
@@ -204,7 +209,8 @@ uint32_t haythaw_apply_auxiliary_v1(uint16_t width, uint16_t height, uint8_t *y,
                                     const uint8_t *view_y, size_t view_y_count, const uint8_t *view_u, size_t view_u_count,
                                     const uint8_t *view_v, size_t view_v_count);
 
-/* The auxiliary view of AVC444v2 (V2): the same places, kept elsewhere in the view. y is lent and never written; every other
+/* The auxiliary view of AVC444v2 (V2): the same places, kept elsewhere in the view: V stands W/2 columns after U in its luma, and
+ * W/4 columns after U in its chroma. W is view_width rounded up to 16 (the 16 rule). y is lent and never written; every other
  * byte of u and v stays. */
 uint32_t haythaw_apply_auxiliary_v2(uint16_t width, uint16_t height, uint8_t *y, size_t y_count, uint8_t *u, size_t u_count,
                                     uint8_t *v, size_t v_count, const uint16_t *rects, size_t rects_count,
@@ -212,12 +218,22 @@ uint32_t haythaw_apply_auxiliary_v2(uint16_t width, uint16_t height, uint8_t *y,
                                     const uint8_t *view_y, size_t view_y_count, const uint8_t *view_u, size_t view_u_count,
                                     const uint8_t *view_v, size_t view_v_count);
 
+/* The same by the 32 rule, for servers that round the width of their surface up to 32: W is the picture's width rounded up to 32,
+ * and view_width says only which samples the view has. W may be 65,536 here. At a width of 48, W is 64: of a view that is 64 wide
+ * all is taken, and of one that is 48 wide the odd columns 1 to 31 and, in odd rows, the even columns 0 to 30. */
+uint32_t haythaw_apply_auxiliary_v2_32(uint16_t width, uint16_t height, uint8_t *y, size_t y_count, uint8_t *u, size_t u_count,
+                                       uint8_t *v, size_t v_count, const uint16_t *rects, size_t rects_count,
+                                       uint16_t view_width, uint16_t view_height, size_t luma_stride, size_t chroma_stride,
+                                       const uint8_t *view_y, size_t view_y_count, const uint8_t *view_u, size_t view_u_count,
+                                       const uint8_t *view_v, size_t view_v_count);
+
 /* ---- A picture into its two views ----
  *
- * Both answer 0, 1, 5 or 6, in this order of refusals: a width or height above 65,520 is refused with 5, also where the other
+ * All three answer 0, 1, 5 or 6, in this order of refusals: a width or height above 65,520 is refused with 5, also where the other
  * is 0. Main: the luma plane, and the even-even chroma. Auxiliary: the chroma of the other three places of each block. They
  * write the first stride x rows bytes of main_y and auxiliary_y and the first stride/2 x rows/2 bytes of main_u, main_v,
- * auxiliary_u and auxiliary_v, every one; bytes after them stay. The picture is only read. */
+ * auxiliary_u and auxiliary_v, every one; bytes after them stay. The picture is only read. By the 32 rule W stands in place of
+ * the stride. */
 
 /* The auxiliary view in the layout of AVC444 (V1). */
 haythaw_views haythaw_split_v1(uint16_t width, uint16_t height, const uint8_t *y, size_t y_count,
@@ -227,13 +243,27 @@ haythaw_views haythaw_split_v1(uint16_t width, uint16_t height, const uint8_t *y
                                uint8_t *auxiliary_u, size_t auxiliary_u_count, uint8_t *auxiliary_v,
                                size_t auxiliary_v_count);
 
-/* The auxiliary view in the layout of AVC444v2 (V2). */
+/* The auxiliary view in the layout of AVC444v2 (V2), by the 16 rule: both views are as wide as the stride. */
 haythaw_views haythaw_split_v2(uint16_t width, uint16_t height, const uint8_t *y, size_t y_count,
                                const uint8_t *u, size_t u_count, const uint8_t *v, size_t v_count,
                                uint8_t *main_y, size_t main_y_count, uint8_t *main_u, size_t main_u_count,
                                uint8_t *main_v, size_t main_v_count, uint8_t *auxiliary_y, size_t auxiliary_y_count,
                                uint8_t *auxiliary_u, size_t auxiliary_u_count, uint8_t *auxiliary_v,
                                size_t auxiliary_v_count);
+
+/* The same by the 32 rule, for clients that round the width of their surface up to 32: both views are W wide, the picture's width
+ * rounded up to 32, as if its planes were W wide and had Y 0, and U and V 128, past the stride. So a width of 48 has views of 64,
+ * and a row of auxiliary luma is U's 24 odd columns, eight 128, V's 24 and eight 128. Where the stride is a multiple of 32, both
+ * rules write the same bytes.
+ * Answers 0, 1, 5 or 6, in this order of refusals; 5 also where W is above 65,535, so that a width of 65,504 splits and 65,505 does
+ * not, at height 0 too. Writes the first W x rows bytes of main_y and auxiliary_y and the first W/2 x rows/2 bytes of main_u,
+ * main_v, auxiliary_u and auxiliary_v, every one; bytes after them stay. The answer has W for width and luma_stride. */
+haythaw_views haythaw_split_v2_32(uint16_t width, uint16_t height, const uint8_t *y, size_t y_count,
+                                  const uint8_t *u, size_t u_count, const uint8_t *v, size_t v_count,
+                                  uint8_t *main_y, size_t main_y_count, uint8_t *main_u, size_t main_u_count,
+                                  uint8_t *main_v, size_t main_v_count, uint8_t *auxiliary_y, size_t auxiliary_y_count,
+                                  uint8_t *auxiliary_u, size_t auxiliary_u_count, uint8_t *auxiliary_v,
+                                  size_t auxiliary_v_count);
 
 /* ---- A 4:2:0 view by itself ----
  *

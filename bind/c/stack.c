@@ -33,8 +33,10 @@ ALONE(do_to_rgba, haythaw_to_rgba(PICTURE, a->left, a->top, a->right, a->bottom,
 ALONE(do_main, haythaw_apply_main_view(PICTURE, LENT(RECTS), A_VIEW))
 ALONE(do_aux_v1, haythaw_apply_auxiliary_v1(PICTURE, LENT(RECTS), A_VIEW))
 ALONE(do_aux_v2, haythaw_apply_auxiliary_v2(PICTURE, LENT(RECTS), A_VIEW))
+ALONE(do_aux_v2_32, haythaw_apply_auxiliary_v2_32(PICTURE, LENT(RECTS), A_VIEW))
 ALONE(do_split_v1, haythaw_split_v1(PICTURE, BOTH_VIEWS))
 ALONE(do_split_v2, haythaw_split_v2(PICTURE, BOTH_VIEWS))
+ALONE(do_split_v2_32, haythaw_split_v2_32(PICTURE, BOTH_VIEWS))
 ALONE(do_view, haythaw_view(A_VIEW))
 ALONE(do_luma_row, haythaw_luma_row(A_VIEW, a->row))
 ALONE(do_u_row, haythaw_u_row(A_VIEW, a->row))
@@ -53,9 +55,9 @@ ALONE(do_write, haythaw_avc444_write(a->kind, BOTH_STREAMS, LENT(OUT)))
 ALONE(do_allocation_size, haythaw_allocation_size(a->width, a->height))
 
 static void (*const alone[CALLS + 1])(const Args *) = {
-    do_new, do_from_rgba, do_from_rgba_rust, do_to_rgba, do_main, do_aux_v1, do_aux_v2, do_split_v1, do_split_v2, do_view,
-    do_luma_row, do_u_row, do_v_row, do_view_to_rgba, do_is_avc, do_annex_b, do_read, do_luma_rectangle, do_chroma_rectangle,
-    do_luma_pair, do_chroma_pair, do_luma_rects, do_chroma_rects, do_write, do_allocation_size};
+    do_new, do_from_rgba, do_from_rgba_rust, do_to_rgba, do_main, do_aux_v1, do_aux_v2, do_aux_v2_32, do_split_v1, do_split_v2,
+    do_split_v2_32, do_view, do_luma_row, do_u_row, do_v_row, do_view_to_rgba, do_is_avc, do_annex_b, do_read, do_luma_rectangle,
+    do_chroma_rectangle, do_luma_pair, do_chroma_pair, do_luma_rects, do_chroma_rects, do_write, do_allocation_size};
 
 static void on_its_own_stack(void)
 {
@@ -84,16 +86,16 @@ static void put_u32(uint8_t *bytes, uint32_t number)
         bytes[k] = (uint8_t)(number >> 8 * k);
 }
 
-/* An AVC444 payload goes with a picture: two streams, each with as many rectangles as the picture has columns, all zero. So does what
+/* Planes and views are as wide as the 32 rule has them, so that every call finds all that it takes. An AVC444 payload goes with a picture: two streams, each with as many rectangles as the picture has columns, all zero. So does what
  * one is written from, with as many H.264 bytes as a plane has. */
 static Args of_size(uint16_t width, uint16_t height)
 {
     static const uint16_t rects[8] = {1, 1, 65535, 65535, 0, 0, 7, 7};
     static uint8_t units[6] = {0, 0, 0, 2, 0x67, 0x42};
     Args a = {0};
-    const size_t stride = (width + 15u) / 16 * 16, rows = (height + 15u) / 16 * 16, plane = stride * rows;
+    const size_t wide = (width + 31u) / 32 * 32, rows = (height + 15u) / 16 * 16, plane = wide * rows;
     a.width = width, a.height = height, a.right = width, a.bottom = height;
-    a.view_width = (uint16_t)stride, a.view_height = (uint16_t)rows, a.luma_stride = stride, a.chroma_stride = stride / 2;
+    a.view_width = (uint16_t)wide, a.view_height = (uint16_t)rows, a.luma_stride = wide, a.chroma_stride = wide / 2;
     for (int s = Y; s < SLICES; s++) {
         a.count[s] = s == RGBA || s == OUT ? 4 * plane : plane;
         a.at[s] = calloc(a.count[s], 1);

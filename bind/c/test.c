@@ -11,23 +11,30 @@
 #include "test/off.h"
 #include "test/results.h"
 #include "test/sizes.h"
+#include "test/width.h"
 #include "test/wire.h"
 #include "test/write.h"
 
-/* A picture of noise is split both ways and applied, main then auxiliary, over a rectangle with an odd left edge to a copy of an
+/* The two layouts, and V2 once more by the 32 rule, whose views are wider: 37 is 64. */
+static const struct { enum call split, auxiliary; size_t wide; const char *name; } layouts[] = {
+    {SPLIT_V1, AUX_V1, 48, "V1 there and back"}, {SPLIT_V2, AUX_V2, 48, "V2 there and back"},
+    {SPLIT_V2_32, AUX_V2_32, 64, "V2 by the 32 rule there and back"}};
+
+/* A picture of noise is split each way and applied, main then auxiliary, over a rectangle with an odd left edge to a copy of an
  * earlier picture: its luma inside the rectangle, its chroma in the widened one, and nothing else. */
-static void both_layouts(void)
+static void each_layout(void)
 {
     enum { WIDTH = 37, HEIGHT = 19, STRIDE = 48, ROWS = 32, PLANE = STRIDE * ROWS };
     static const uint16_t rect[4] = {5, 3, 30, 18};
     static const size_t luma[4] = {5, 3, 30, 18}, chroma[4] = {4, 2, 30, 18};
-    for (int layout = 0; layout < 2; layout++) {
+    for (size_t layout = 0; layout < sizeof layouts / sizeof *layouts; layout++) {
+        const size_t large = layouts[layout].wide * ROWS;
         Args from = {0}, to = {0};
         picture(&from, WIDTH, HEIGHT, PLANE);
         for (int s = MAIN_Y; s <= AUX_V; s++)
-            lend_as(&from, (enum slice)s, s == MAIN_Y || s == AUX_Y ? PLANE : PLANE / 4, NULL);
-        Result r = tried(layout == 0 ? SPLIT_V1 : SPLIT_V2, &from);
-        check(r.number == 0, layout == 0 ? "split_v1" : "split_v2", "the number");
+            lend_as(&from, (enum slice)s, s == MAIN_Y || s == AUX_Y ? large : large / 4, NULL);
+        Result r = tried(layouts[layout].split, &from);
+        check(r.number == 0 && r.width == layouts[layout].wide, call_names[layouts[layout].split], "the number and the width");
         picture(&to, WIDTH, HEIGHT, PLANE);
         to.view_width = r.width, to.view_height = r.height, to.luma_stride = r.luma_stride, to.chroma_stride = r.chroma_stride;
         to.at[RECTS] = lend(8);
@@ -40,7 +47,7 @@ static void both_layouts(void)
                 to.count[VIEW_Y + s] = from.count[(auxiliary ? AUX_Y : MAIN_Y) + s];
             }
             trying = "apply";
-            r = run(!auxiliary ? MAIN : layout == 0 ? AUX_V1 : AUX_V2, &to);
+            r = run(auxiliary ? layouts[layout].auxiliary : MAIN, &to);
             check(is_refusal(&r, 0), "apply", "the number");
         }
         bool right[3] = {true, true, true};
@@ -51,7 +58,7 @@ static void both_layouts(void)
                     before = lents[i].seen;
             for (size_t k = 0; k < PLANE; k++)
                 right[s] = right[s] && now[k] == (within(s == Y ? luma : chroma, k / STRIDE, k % STRIDE) ? source : before)[k];
-            check(right[s], layout == 0 ? "V1 there and back" : "V2 there and back", slice_names[s]);
+            check(right[s], layouts[layout].name, slice_names[s]);
         }
         over(MAIN);
     }
@@ -111,7 +118,8 @@ int main(int words, char **word)
         list_lengths();
         rectangles();
         longest_sides();
-        both_layouts();
+        width_rules();
+        each_layout();
     }
     printf("c: %lu checks, %lu wrong\n", checks, wrong);
     return wrong != 0;

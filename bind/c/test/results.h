@@ -166,7 +166,19 @@ static void result_of_auxiliary_views(void)
           "apply_auxiliary_v2", "a number");
     check(u[0] == 0 && u[1] == 31 && u[16] == 33 && u[17] == 32 && u[18] == 0, "apply_auxiliary_v2", "U");
     check(v[0] == 0 && v[1] == 41 && v[16] == 43 && v[17] == 42 && v[18] == 0, "apply_auxiliary_v2", "V");
-    check(y[0] == 0 && y[16] == 0, "apply_auxiliary_v1 and _v2", "no Y");
+
+    /* V2 by the 32 rule: a picture of 2 counts as 32 wide, so V stands 16 columns after U in luma and 8 in chroma, of a view of 17 by 2. */
+    const uint8_t wide[34] = {51, 0, 0, 0, 0, 0, 0, 0, 0, 0, 0, 0, 0, 0, 0, 0, 61, 52, 0, 0, 0, 0, 0, 0, 0, 0, 0, 0, 0, 0, 0, 0, 0, 62};
+    const uint8_t wide_u[9] = {53, 0, 0, 0, 0, 0, 0, 0, 63}, wide_v[9] = {0};
+    check(haythaw_apply_auxiliary_v2_32(2, 2, y, 256, u, 256, v, 256, rects, 4, 17, 2, 17, 8, wide, 34, wide_u, 9, wide_v, 9) ==
+              HAYTHAW_VIEW_NARROW,
+          "apply_auxiliary_v2_32", "a refusal");
+    check(haythaw_apply_auxiliary_v2_32(2, 2, y, 256, u, 256, v, 256, rects, 4, 17, 2, 17, 9, wide, 34, wide_u, 9, wide_v, 9) ==
+              HAYTHAW_DONE,
+          "apply_auxiliary_v2_32", "a number");
+    check(u[0] == 0 && u[1] == 51 && u[16] == 53 && u[17] == 52 && u[18] == 0, "apply_auxiliary_v2_32", "U");
+    check(v[0] == 0 && v[1] == 61 && v[16] == 63 && v[17] == 62 && v[18] == 0, "apply_auxiliary_v2_32", "V");
+    check(y[0] == 0 && y[16] == 0, "the auxiliary views", "no Y");
 }
 
 /* A picture of 2 by 1 is split into views of 16 by 16, and one of 65,521 by 0 into none. */
@@ -200,6 +212,31 @@ static void result_of_split(void)
     check(views.number == HAYTHAW_SPLIT_LARGE && views.width == 0 && views.luma_stride == 0, "split_v2", "too wide");
 }
 
+/* A picture of 2 by 1 by the 32 rule, whose views are 32 by 16: the 16 columns past its stride have Y 0, and U and V 128. */
+static void result_of_split_32(void)
+{
+    static uint8_t y[256], u[256], v[256], main_y[512], main_u[128], main_v[128], aux_y[512], aux_u[128], aux_v[128];
+    y[255] = 1;
+    u[0] = 2, u[1] = 3, u[16] = 4;
+    v[0] = 5, v[1] = 6, v[16] = 7;
+    memset(main_y, 9, 512);
+
+    haythaw_views views = haythaw_split_v2_32(2, 1, y, 256, u, 256, v, 256, main_y, 512, main_u, 128, main_v, 128,
+                                              aux_y, 512, aux_u, 128, aux_v, 127);
+    check(views.number == HAYTHAW_OUTPUT_SHORT && views.width == 0 && main_y[0] == 9, "split_v2_32", "a refusal");
+    views = haythaw_split_v2_32(2, 1, y, 256, u, 256, v, 256, main_y, 512, main_u, 128, main_v, 128,
+                                aux_y, 512, aux_u, 128, aux_v, 128);
+    check(views.number == HAYTHAW_DONE, "split_v2_32", "a number");
+    check(views.width == 32 && views.height == 16 && views.luma_stride == 32 && views.chroma_stride == 16, "split_v2_32", "sizes");
+    check(main_y[495] == 1 && main_y[496] == 0 && main_y[511] == 0, "split_v2_32", "main luma");
+    check(main_u[0] == 2 && main_u[8] == 128 && main_v[0] == 5 && main_v[127] == 128, "split_v2_32", "main chroma");
+    check(aux_y[0] == 3 && aux_y[8] == 128 && aux_y[16] == 6 && aux_y[511] == 128, "split_v2_32", "auxiliary luma");
+    check(aux_u[0] == 4 && aux_u[4] == 128 && aux_u[8] == 7 && aux_v[0] == 0 && aux_v[12] == 128, "split_v2_32", "auxiliary chroma");
+
+    views = haythaw_split_v2_32(65505, 0, y, 0, u, 0, v, 0, main_y, 0, main_u, 0, main_v, 0, aux_y, 0, aux_u, 0, aux_v, 0);
+    check(views.number == HAYTHAW_SPLIT_LARGE && views.width == 0 && views.luma_stride == 0, "split_v2_32", "too wide");
+}
+
 static void each_result_type(void)
 {
     result_of_view();
@@ -210,6 +247,7 @@ static void each_result_type(void)
     result_of_main_view();
     result_of_auxiliary_views();
     result_of_split();
+    result_of_split_32();
 }
 
 #endif

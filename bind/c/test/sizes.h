@@ -32,13 +32,14 @@ static uint32_t view_number(const Args *a)
                ? 4 : 0;
 }
 
-static uint32_t split_number(const Args *a)
+/* The views are as wide as the stride or, by the 32 rule, as the width rounded up to 32, which is never less. */
+static uint32_t split_number(enum call call, const Args *a)
 {
-    const size_t stride = up_to(a->width, 16), rows = up_to(a->height, 16);
-    if (plane_short(a) || stride > 65535 || rows > 65535)
+    const size_t wide = up_to(a->width, call == SPLIT_V2_32 ? 32 : 16), rows = up_to(a->height, 16);
+    if (plane_short(a) || wide > 65535 || rows > 65535)
         return plane_short(a) ? 1 : 5;
     for (int s = MAIN_Y; s <= AUX_V; s++)
-        if (a->count[s] < (s == MAIN_Y || s == AUX_Y ? stride * rows : stride / 2 * (rows / 2)))
+        if (a->count[s] < (s == MAIN_Y || s == AUX_Y ? wide * rows : wide / 2 * (rows / 2)))
             return 6;
     return 0;
 }
@@ -49,8 +50,8 @@ static uint32_t the_number(enum call call, const Args *a)
     case NEW: return plane_short(a) ? 1 : 0;
     case FROM_RGBA: case FROM_RGBA_RUST: return a->count[RGBA] < (size_t)4 * a->width * a->height ? 2 : plane_short(a) ? 1 : 0;
     case TO_RGBA: return plane_short(a) ? 1 : a->count[OUT] < clipped(a) ? 6 : 0;
-    case MAIN: case AUX_V1: case AUX_V2: return plane_short(a) ? 1 : a->count[RECTS] % 4 != 0 ? 7 : view_number(a);
-    case SPLIT_V1: case SPLIT_V2: return split_number(a);
+    case MAIN: case AUX_V1: case AUX_V2: case AUX_V2_32: return plane_short(a) ? 1 : a->count[RECTS] % 4 != 0 ? 7 : view_number(a);
+    case SPLIT_V1: case SPLIT_V2: case SPLIT_V2_32: return split_number(call, a);
     case VIEW_TO_RGBA:
         return view_number(a) != 0 ? view_number(a) : a->count[OUT] < (size_t)4 * a->view_width * a->view_height ? 6 : 0;
     case VIEW: case LUMA_ROW: case U_ROW: case V_ROW: return view_number(a);
@@ -72,7 +73,7 @@ static void by_table(enum call call, const Args *a, const char *what)
 /* Pictures of every size from nothing to the largest, with planes of 512 bytes and views of as many, and with none. */
 static void picture_sizes(void)
 {
-    static const uint16_t sides[] = {0, 1, 2, 15, 16, 17, 32, 255, 65519, 65520, 65521, 65535};
+    static const uint16_t sides[] = {0, 1, 2, 15, 16, 17, 32, 255, 65504, 65505, 65519, 65520, 65521, 65535};
     enum { SIDES = sizeof sides / sizeof *sides };
     for (int none = 0; none < 2; none++) {
         Args a = {0};
@@ -82,7 +83,7 @@ static void picture_sizes(void)
         a.count[RECTS] /= 2;
         for (size_t i = 0; i < SIDES; i++)
             for (size_t j = 0; j < SIDES; j++)
-                for (int call = NEW; call <= SPLIT_V2; call++) {
+                for (int call = NEW; call <= SPLIT_V2_32; call++) {
                     a.width = sides[i], a.height = sides[j];
                     by_table((enum call)call, &a, "a picture's size");
                 }
@@ -97,7 +98,7 @@ static void view_sizes(void)
     static const size_t strides[] = {0, 1, 3, 7, 65535, SIZE_MAX / 2 + 1, 6148914691236517206u, SIZE_MAX - 1, SIZE_MAX};
     enum { SIDES = sizeof sides / sizeof *sides, STRIDES = sizeof strides / sizeof *strides };
     static const uint16_t rects[8] = {0, 0, 65535, 65535, 3, 1, 5, 2};
-    static const enum call calls[] = {VIEW, LUMA_ROW, U_ROW, V_ROW, VIEW_TO_RGBA, MAIN, AUX_V1, AUX_V2};
+    static const enum call calls[] = {VIEW, LUMA_ROW, U_ROW, V_ROW, VIEW_TO_RGBA, MAIN, AUX_V1, AUX_V2, AUX_V2_32};
     Args a = {0};
     picture(&a, 17, 3, 512);
     for (int s = VIEW_Y; s <= OUT; s++)
@@ -120,7 +121,7 @@ static void view_sizes(void)
 static void list_lengths(void)
 {
     for (size_t count = 0; count < 10; count++)
-        for (int call = MAIN; call <= AUX_V2; call++) {
+        for (int call = MAIN; call <= AUX_V2_32; call++) {
             Args a = {0};
             picture(&a, 17, 3, 512);
             view(&a, 5, 3, 7, 4);
@@ -136,7 +137,7 @@ static void rectangles(void)
 {
     static const uint16_t edges[] = {0, 1, 2, 4, 5, 17, 65535};
     enum { EDGES = sizeof edges / sizeof *edges };
-    static const enum call calls[] = {MAIN, AUX_V1, AUX_V2, TO_RGBA};
+    static const enum call calls[] = {MAIN, AUX_V1, AUX_V2, AUX_V2_32, TO_RGBA};
     Args a = {0};
     picture(&a, 17, 3, 512);
     view(&a, 5, 3, 7, 4);
@@ -170,6 +171,7 @@ static void longest_sides(void)
         by_table(FROM_RGBA_RUST, &a, "the longest side");
         by_table(SPLIT_V1, &a, "the longest side");
         by_table(SPLIT_V2, &a, "the longest side");
+        by_table(SPLIT_V2_32, &a, "the longest side");
         over(NEW);
     }
 }
