@@ -18,6 +18,19 @@ pub enum Avc444Layout {
     V2,
 }
 
+/// Which width W the auxiliary view of [`Avc444Layout::V2`] is laid out by: V stands W/2 columns after U in its luma, and W/4 after it in
+/// its chroma.
+///
+/// No stream says which rule it is; it is the server's. The original has one rule, [`WidthRule::To16`], and no type for it. At a width of
+/// 48, W is 48 by the one and 64 by the other.
+#[derive(Debug, Clone, Copy, PartialEq, Eq)]
+pub enum WidthRule {
+    /// A view's own width rounded up to 16, and a split's stride: what the original does.
+    To16,
+    /// The picture's width rounded up to 32: for servers that round the width of their surface so.
+    To32,
+}
+
 /// A YUV 4:4:4 picture in the colours of MS-RDPEGFX, its planes padded to whole macroblocks.
 ///
 /// The chroma sample at an even row and an even column holds the average of its 2x2 block, as the main view has it. The reverse
@@ -64,6 +77,9 @@ pub struct FilterCounts {
 
 /// A call of the library that makes a picture of RGBA pixels: 0, 2 or 1.
 type Making = fn(&[u8], Size, [&mut [u8]; 3]) -> u32;
+
+/// A call of the library that splits a picture: 0, 1, 5 or 6.
+type Splitting = fn(Size, [&[u8]; 3], [&mut [u8]; 3], [&mut [u8]; 3]) -> library::Views;
 
 impl Yuv444Frame {
     /// A black picture.
@@ -185,7 +201,8 @@ impl Yuv444Frame {
 
     /// Takes the chroma that the main view leaves out from an auxiliary view, for every 2x2 block that `rects` touch.
     ///
-    /// Luma and the main view's chroma stay as they are. See [`Yuv444Frame`] for an example.
+    /// Luma and the main view's chroma stay as they are. See [`Yuv444Frame`] for an example. Layout V2 is read by the original's rule for
+    /// its width; [`Self::apply_auxiliary_view_v2`] takes another one too.
     pub fn apply_auxiliary_view(&mut self, layout: Avc444Layout, view: &Yuv420Frame, rects: &[ExclusiveRectangle]) {
         let apply = match layout {
             Avc444Layout::V1 => library::apply_auxiliary_v1,
@@ -193,6 +210,39 @@ impl Yuv444Frame {
         };
         let (size, planes) = self.lent_mut();
         library::done("apply_auxiliary_view", apply(size, planes, library::numbers_of(rects), view.lent()));
+    }
+
+    /// The same for an auxiliary view of layout V2, by a rule for its width, which the original has no call for.
+    ///
+    /// By [`WidthRule::To16`] it is [`Self::apply_auxiliary_view`] with [`Avc444Layout::V2`]. By [`WidthRule::To32`] the picture's width
+    /// says where V stands in the view, and the view's own width which samples there are.
+    ///
+    /// ```
+    /// use haythaw::avc444::{WidthRule, Yuv444Frame};
+    /// use haythaw::geometry::ExclusiveRectangle;
+    ///
+    /// // A column of magenta on a surface that is 48 pixels wide, from a server that rounds that up to 64.
+    /// let mut rgba = [128, 128, 128, 255].repeat(48 * 2);
+    /// for row in 0..2 {
+    ///     rgba[(row * 48 + 33) * 4..][..4].copy_from_slice(&[255, 0, 255, 255]);
+    /// }
+    /// let sent = Yuv444Frame::from_rgba(&rgba, 48, 2).expect("48 x 2 pixels");
+    /// let (main, auxiliary) = sent.split_v2(WidthRule::To32)?;
+    ///
+    /// let whole = ExclusiveRectangle { left: 0, top: 0, right: 48, bottom: 2 };
+    /// let mut picture = Yuv444Frame::new(48, 2);
+    /// picture.apply_main_view(&main, &[whole]);
+    /// picture.apply_auxiliary_view_v2(WidthRule::To32, &auxiliary, &[whole]);
+    /// assert_eq!(picture.to_rgba(&whole), sent.to_rgba(&whole));
+    /// # Ok::<(), haythaw::decode::DecoderError>(())
+    /// ```
+    pub fn apply_auxiliary_view_v2(&mut self, rule: WidthRule, view: &Yuv420Frame, rects: &[ExclusiveRectangle]) {
+        let apply = match rule {
+            WidthRule::To16 => library::apply_auxiliary_v2,
+            WidthRule::To32 => library::apply_auxiliary_v2_32,
+        };
+        let (size, planes) = self.lent_mut();
+        library::done("apply_auxiliary_view_v2", apply(size, planes, library::numbers_of(rects), view.lent()));
     }
 
     /// The pixels of `rect`, clipped to the picture, as tightly packed RGBA: the reverse transform of MS-RDPEGFX 3.3.8.3.1 after the
@@ -265,7 +315,42 @@ impl Yuv444Frame {
             Avc444Layout::V1 => library::split_v1,
             Avc444Layout::V2 => library::split_v2,
         };
-        let (mut main, mut auxiliary) = (self.view_planes(), self.view_planes());
+        self.split_by(split, 16)
+    }
+
+    /// The same into layout V2, by a rule for the width, which the original has no call for.
+    ///
+    /// By [`WidthRule::To16`] it is [`Self::split`] with [`Avc444Layout::V2`]. By [`WidthRule::To32`] both views are as wide as the picture's
+    /// width rounded up to 32, as if its planes were so wide and had Y 0, and U and V 128, in the columns past their own.
+    ///
+    /// # Errors
+    ///
+    /// When the width of the views or their height is above 65,535: that is, when the height is above 65,520, or the width above 65,520 by
+    /// [`WidthRule::To16`] and above 65,504 by [`WidthRule::To32`].
+    ///
+    /// ```
+    /// use haythaw::avc444::{WidthRule, Yuv444Frame};
+    ///
+    /// let red = Yuv444Frame::from_rgba_filled(&[255, 0, 0, 255].repeat(48), 48, 1).expect("48 pixels");
+    /// let (main, auxiliary) = red.split_v2(WidthRule::To32)?;
+    /// assert_eq!((main.width(), auxiliary.width()), (64, 64));
+    /// let row = [vec![99; 24], vec![128; 8], vec![255; 24], vec![128; 8]].concat();
+    /// assert_eq!(auxiliary.luma_row(0), Some(&row[..]));
+    ///
+    /// assert_eq!(red.split_v2(WidthRule::To16)?.1.width(), 48);
+    /// assert!(Yuv444Frame::new(65_505, 0).split_v2(WidthRule::To32).is_err());
+    /// # Ok::<(), haythaw::decode::DecoderError>(())
+    /// ```
+    pub fn split_v2(&self, rule: WidthRule) -> DecoderResult<(Yuv420Frame, Yuv420Frame)> {
+        match rule {
+            WidthRule::To16 => self.split_by(library::split_v2, 16),
+            WidthRule::To32 => self.split_by(library::split_v2_32, 32),
+        }
+    }
+
+    /// Both views by a call of the library that makes them as wide as the width rounded up to `unit`.
+    fn split_by(&self, split: Splitting, unit: usize) -> DecoderResult<(Yuv420Frame, Yuv420Frame)> {
+        let (mut main, mut auxiliary) = (self.view_planes(unit), self.view_planes(unit));
         let (size, planes) = self.lent();
         let views =
             split(size, planes, main.each_mut().map(Vec::as_mut_slice), auxiliary.each_mut().map(Vec::as_mut_slice));
@@ -298,9 +383,10 @@ impl Yuv444Frame {
         Self { width, height, y: vec![0; plane], u: vec![0; plane], v: vec![0; plane] }
     }
 
-    /// Planes for a view of this picture, for the library to write: luma as large as Y, and chroma with half as many columns and rows.
-    fn view_planes(&self) -> [Vec<u8>; 3] {
-        let luma = self.y.len();
+    /// Planes for a view of this picture, for the library to write: luma as wide as the width rounded up to `unit`, with as many rows as
+    /// Y, and chroma with half as many columns and rows.
+    fn view_planes(&self, unit: usize) -> [Vec<u8>; 3] {
+        let luma = usize::from(self.width).next_multiple_of(unit) * usize::from(self.height).next_multiple_of(16);
         [vec![0; luma], vec![0; luma / 4], vec![0; luma / 4]]
     }
 

@@ -1,7 +1,7 @@
 //! The numbers that the rules works by hand, through this crate's calls. A picture's planes are read by splitting it: the two views
 //! hold every sample.
 
-use haythaw::{Avc444Layout, ExclusiveRectangle, FilterCounts, Yuv420Frame, Yuv444Frame};
+use haythaw::{Avc444Layout, ExclusiveRectangle, FilterCounts, WidthRule, Yuv420Frame, Yuv444Frame};
 
 fn rect([left, top, right, bottom]: [u16; 4]) -> ExclusiveRectangle {
     ExclusiveRectangle { left, top, right, bottom }
@@ -160,6 +160,34 @@ fn a_cropped_view_of_layout_v2() {
     assert_eq!(taken(&picture).chroma_cols, [1, 3, 5, 7]); // column 9 wants V from column 16 + 4
 }
 
+/// By the 32 rule a picture 48 wide has W 64. A view that is 48 wide then has V of the odd columns 1 to 31 alone, since 33 wants it from
+/// 32 + 16; and of the even columns 0 to 30, since 32 wants it from 16 + 8, and a chroma row has 24.
+#[test]
+fn a_cropped_view_by_the_32_rule() {
+    let mut picture = Yuv444Frame::new(48, 16);
+    picture.apply_auxiliary_view_v2(WidthRule::To32, &sevens(48, 16), &[rect([0, 0, 48, 16])]);
+    assert_eq!(taken(&picture).chroma_cols, [1, 3, 5, 7, 9, 11, 13, 15, 17, 19, 21, 23, 25, 27, 29, 31]);
+    assert_eq!(taken(&picture).chroma_rows, [1, 3, 5, 7, 9, 11, 13, 15]);
+    let (stride, [_, u, v]) = planes(&picture);
+    let odd_row = [[7; 32].as_slice(), &[128; 16]].concat();
+    assert_eq!((&u[stride..2 * stride], &v[15 * stride..]), (&odd_row[..], &odd_row[..]));
+}
+
+/// The rule is over the picture's width, and not the view's: 20 is 32, whether the view is 32 wide or 40. V of column 1 stands at 16.
+#[test]
+fn the_32_rule_is_of_the_picture() {
+    for (width, stride) in [(32, 32), (40, 40)] {
+        let mut luma = vec![0; usize::from(width)];
+        (luma[0], luma[16]) = (7, 9);
+        let chroma = vec![0; luma.len() / 2];
+        let view = Yuv420Frame::new(width, 1, luma, stride, chroma.clone(), chroma, stride / 2).expect("a row");
+        let mut picture = Yuv444Frame::new(20, 1);
+        picture.apply_auxiliary_view_v2(WidthRule::To32, &view, &[rect([0, 0, 20, 1])]);
+        let (_, [_, u, v]) = planes(&picture);
+        assert_eq!((u[1], v[1]), (7, 9), "a view {width} wide");
+    }
+}
+
 #[test]
 fn a_list_of_rectangles_is_served_to_its_end() {
     let mut picture = Yuv444Frame::new(5, 5);
@@ -177,6 +205,84 @@ fn sides_that_split_and_sides_that_do_not() {
         assert!(Yuv444Frame::new(0, 65_521).split(layout).is_err());
         let (main, auxiliary) = Yuv444Frame::new(0, 20).split(layout).expect("empty views");
         assert_eq!((main.width(), main.height(), auxiliary.luma_row(31)), (0, 32, Some(&[][..])));
+    }
+}
+
+/// A red picture 16 wide, whose W is 32: the columns past its stride have Y 0, and U and V 128.
+#[test]
+fn a_split_by_the_32_rule() {
+    let red = Yuv444Frame::from_rgba_filled(&[255, 0, 0, 0].repeat(16), 16, 1).expect("16 pixels");
+    let (main, auxiliary) = red.split_v2(WidthRule::To32).expect("16 is not too wide");
+    assert_eq!((main.width(), main.height(), auxiliary.width(), auxiliary.height()), (32, 16, 32, 16));
+    let of = |parts: [(u8, usize); 4]| parts.map(|(byte, count)| vec![byte; count]).concat();
+    for row in 0..16 {
+        assert_eq!(main.luma_row(row), Some(&of([(53, 16), (0, 16), (0, 0), (0, 0)])[..]));
+        assert_eq!(auxiliary.luma_row(row), Some(&of([(99, 8), (128, 8), (255, 8), (128, 8)])[..]));
+    }
+    for row in 0..8 {
+        assert_eq!(main.u_row(row), Some(&of([(99, 8), (128, 8), (0, 0), (0, 0)])[..]));
+        assert_eq!(main.v_row(row), Some(&of([(255, 8), (128, 8), (0, 0), (0, 0)])[..]));
+        let quarters = of([(99, 4), (128, 4), (255, 4), (128, 4)]);
+        assert_eq!((auxiliary.u_row(row), auxiliary.v_row(row)), (Some(&quarters[..]), Some(&quarters[..])));
+    }
+}
+
+#[test]
+fn widths_that_split_by_a_rule_and_widths_that_do_not() {
+    for (rule, most) in [(WidthRule::To16, 65_520), (WidthRule::To32, 65_504)] {
+        let (main, auxiliary) = Yuv444Frame::new(most, 0).split_v2(rule).expect("views without rows");
+        assert_eq!((main.width(), auxiliary.width(), main.height()), (most, most, 0), "{rule:?}");
+        let error = Yuv444Frame::new(most + 1, 0).split_v2(rule).unwrap_err();
+        assert_eq!(error.to_string(), "decoder error: padded AVC444 picture exceeds 65535 pixels", "{rule:?}");
+        assert!(Yuv444Frame::new(0, 65_520).split_v2(rule).is_ok());
+        assert!(Yuv444Frame::new(0, 65_521).split_v2(rule).is_err());
+    }
+}
+
+/// All samples of a view, row after row.
+fn samples(view: &Yuv420Frame) -> [Vec<u8>; 3] {
+    let rows = |row: fn(&Yuv420Frame, usize) -> Option<&[u8]>| {
+        (0..).map_while(|at| row(view, at)).flatten().copied().collect()
+    };
+    [rows(Yuv420Frame::luma_row), rows(Yuv420Frame::u_row), rows(Yuv420Frame::v_row)]
+}
+
+#[test]
+fn the_16_rule_is_layout_v2_and_so_is_the_32_rule_on_whole_pairs_of_macroblocks() {
+    for (width, alike) in [(64, true), (49, true), (48, false), (33, false), (17, true), (16, false)] {
+        let picture =
+            Yuv444Frame::from_rgba(&noise(usize::from(width) * 18), width, 18).expect("the pixels are enough");
+        let [layout, to16, to32] =
+            [picture.split(Avc444Layout::V2), picture.split_v2(WidthRule::To16), picture.split_v2(WidthRule::To32)]
+                .map(|views| {
+                    views.map(|(main, auxiliary)| [samples(&main), samples(&auxiliary)]).expect("not too wide")
+                });
+        assert!(to16 == layout, "{width}");
+        assert_eq!(to32 == layout, alike, "{width}");
+    }
+}
+
+/// What a view was split by, it is applied by: the picture comes back whole. A view of the 16 rule, read by the 32 rule where its W is another
+/// one, is not the picture.
+#[test]
+fn a_picture_there_and_back_by_each_rule() {
+    let there_and_back = |width: u16, split: WidthRule, apply: WidthRule| {
+        let picture =
+            Yuv444Frame::from_rgba(&noise(usize::from(width) * 19), width, 19).expect("the pixels are enough");
+        let (main, auxiliary) = picture.split_v2(split).expect("not too wide");
+        let whole = rect([0, 0, width, 19]);
+        let mut shown = Yuv444Frame::new(width, 19);
+        shown.apply_main_view(&main, &[whole]);
+        shown.apply_auxiliary_view_v2(apply, &auxiliary, &[whole]);
+        shown.to_rgba(&whole) == picture.to_rgba(&whole)
+    };
+    for width in [1, 16, 17, 32, 33, 37, 48, 49, 64, 65] {
+        for rule in [WidthRule::To16, WidthRule::To32] {
+            assert!(there_and_back(width, rule, rule), "{width}, {rule:?}");
+        }
+    }
+    for (width, alike) in [(48, false), (37, false), (16, false), (64, true), (20, true)] {
+        assert_eq!(there_and_back(width, WidthRule::To16, WidthRule::To32), alike, "{width}");
     }
 }
 

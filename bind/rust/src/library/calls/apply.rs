@@ -75,4 +75,6 @@ applying! {
     apply_auxiliary_v1 is haythaw_apply_auxiliary_v1;
     /// The auxiliary view of layout V2. 0, 1, 7, 3 or 4.
     apply_auxiliary_v2 is haythaw_apply_auxiliary_v2;
+    /// The same by the 32 rule: W is the picture's width rounded up to 32. 0, 1, 7, 3 or 4.
+    apply_auxiliary_v2_32 is haythaw_apply_auxiliary_v2_32;
 }

@@ -84,4 +84,6 @@ splitting! {
     split_v1 is haythaw_split_v1;
     /// The main view, and the auxiliary one in layout V2.
     split_v2 is haythaw_split_v2;
+    /// The same by the 32 rule: both views are as wide as the width rounded up to 32.
+    split_v2_32 is haythaw_split_v2_32;
 }
