@@ -57,8 +57,10 @@ pub const SUITES: &[Suite] = &[
     apply::MAIN_SUITE,
     apply::V1_SUITE,
     apply::V2_SUITE,
+    apply::V2_32_SUITE,
     split::V1_SUITE,
     split::V2_SUITE,
+    split::V2_32_SUITE,
     round_trip::SUITE,
     avc444::WRITE_SUITE,
     avc444::READ_SUITE,
@@ -92,8 +94,10 @@ pub const BENCHES: &[Bench] = &[
     apply::V2_BENCH,
     apply::V2_RECTS_BENCH,
     apply::V2_SMALL_RECTS_BENCH,
+    apply::V2_32_BENCH,
     split::V1_BENCH,
     split::V2_BENCH,
+    split::V2_32_BENCH,
 ];
 
 /// Two calls of the library against each other.
@@ -110,6 +114,8 @@ pub const WEIGHINGS: &[Weighing] = &[
     apply::V2_SCALE,
     split::V1_SCALE,
     split::V2_SCALE,
+    split::V2_32_BYTES,
+    split::V2_32_SMALL,
 ];
 
 /// The reader of the AVC444 payload against plain Rust.

@@ -19,6 +19,8 @@ type TheirCall = fn(&mut Yuv444Frame, &Yuv420Frame, &[ExclusiveRectangle]);
 pub struct Call {
     pub ours: OurCall,
     pub theirs: TheirCall,
+    /// What the width of a padded view is a multiple of: 16, or 32 by the 32 rule.
+    pub unit: u16,
 }
 
 /// What the planes of pictures and views hold: random bytes, and bytes of which any 256 in a row differ.

@@ -25,20 +25,50 @@ pub fn every(run: &mut Run, call: &'static Call) {
     named::every(run, call, &sources);
     for width in 0..=49 {
         for height in 0..=49 {
-            let size = Size { width, height };
-            let small = Small { call, sources: &sources, size };
-            small.edges(run);
-            small.crops(run);
-            small.unrelated(run);
-            small.lists(run);
-            if pictures::is_about_16(size) {
-                small.refusals(run);
-            }
+            let small = Small { call, sources: &sources, size: Size { width, height } };
+            small.every(run);
         }
     }
     wide(run, call, &sources);
     while run.more() {
         random_case(run, call, &sources);
+    }
+}
+
+/// What `by_width` makes, in words.
+pub const ABOUT_WIDTHS: &str =
+    "the original applies the view, which is made W wide, to the picture, whose planes are made W wide; what the view has not is kept
+systematic: the cases of apply_main_view for widths to 81 and heights 0, 1, 5 and 18, with views padded to a multiple of 32 and cropped
+by 1 to 31
+named: those of apply_main_view; widths about 65,505, where W is 65,536
+random: those of apply_main_view";
+
+/// Every case of a call by the 32 rule: more widths, and fewer heights, which are to it what they are to the others.
+pub fn by_width(run: &mut Run, call: &'static Call) {
+    let sources = Sources::new();
+    named::every(run, call, &sources);
+    far(run, call, &sources);
+    for width in 0..=81 {
+        for height in [0, 1, 5, 18] {
+            let small = Small { call, sources: &sources, size: Size { width, height } };
+            small.every(run);
+        }
+    }
+    wide(run, call, &sources);
+    while run.more() {
+        random_case(run, call, &sources);
+    }
+}
+
+/// The widest pictures, with views that end before V begins and after it, and at the last column.
+fn far(run: &mut Run, call: &'static Call, sources: &Sources) {
+    for width in [65_503, 65_504, 65_505, 65_520, 65_535] {
+        for view_width in [65_535, 65_520, 65_505, 65_504, 40_000, 32_769, 32_768] {
+            let picture = pictures::Sizes::exact(width, 2);
+            let case = Case::new(call, sources, picture, u64::from(width), views::Sizes::tight(view_width, 2));
+            case.check(run, &lists::whole(picture.size));
+            case.check(run, &[width - 9, 0, 65_535, 65_535]);
+        }
     }
 }
 
@@ -70,9 +100,19 @@ impl<'a> Small<'a> {
         Case::new(self.call, self.sources, pictures::Sizes::exact(width, height), place, view)
     }
 
-    /// Whole macroblocks.
+    fn every(&self, run: &mut Run) {
+        self.edges(run);
+        self.crops(run);
+        self.unrelated(run);
+        self.lists(run);
+        if pictures::is_about_16(self.size) {
+            self.refusals(run);
+        }
+    }
+
+    /// Whole macroblocks, in pairs by the 32 rule.
     fn padded(&self) -> views::Sizes {
-        views::Sizes::padded(self.size.width, self.size.height)
+        views::Sizes::padded(self.size.width.next_multiple_of(self.call.unit), self.size.height)
     }
 
     /// Each residue of the edges, and the odd rectangles, with views that are padded, exact and cropped.
@@ -94,9 +134,9 @@ impl<'a> Small<'a> {
         }
     }
 
-    /// Views cropped by 1 to 15 in each direction: the whole picture, or any rectangle.
+    /// Views cropped by 1 to 15 in each direction, or to 31 by the 32 rule: the whole picture, or any rectangle.
     fn crops(&self, run: &mut Run) {
-        for right in 1..=15 {
+        for right in 1..self.call.unit {
             for below in 1..=15 {
                 let rect = match (right + below) % 3 {
                     0 => lists::any_rect(&mut run.random, self.size),

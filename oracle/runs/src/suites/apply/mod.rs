@@ -1,10 +1,11 @@
 //! `haythaw_apply_main_view`, `haythaw_apply_auxiliary_v1` and `_v2` beside `Yuv444Frame::apply_main_view` and
-//! `apply_auxiliary_view`.
+//! `apply_auxiliary_view`; and `haythaw_apply_auxiliary_v2_32`, which the original has no call for, beside the latter over wider planes.
 
 mod bench;
 mod case;
 mod cases;
 mod named;
+mod wide;
 
 use original::avc444::{Avc444Layout, Yuv444Frame};
 
@@ -15,20 +16,24 @@ use crate::run::Run;
 
 pub use self::bench::{
     MAIN_BENCH, MAIN_COPIES, MAIN_RECTS_BENCH, MAIN_SCALE, V1_BENCH, V1_RECTS_BENCH, V1_SCALE, V1_SMALL_RECTS_BENCH,
-    V2_BENCH, V2_RECTS_BENCH, V2_SCALE, V2_SMALL_RECTS_BENCH,
+    V2_32_BENCH, V2_BENCH, V2_RECTS_BENCH, V2_SCALE, V2_SMALL_RECTS_BENCH,
 };
 
-const MAIN: Call = Call { ours: ours::apply_main_view, theirs: Yuv444Frame::apply_main_view };
+const MAIN: Call = Call { ours: ours::apply_main_view, theirs: Yuv444Frame::apply_main_view, unit: 16 };
 
 const V1: Call = Call {
     ours: ours::apply_auxiliary_v1,
     theirs: |picture, view, rects| picture.apply_auxiliary_view(Avc444Layout::V1, view, rects),
+    unit: 16,
 };
 
 const V2: Call = Call {
     ours: ours::apply_auxiliary_v2,
     theirs: |picture, view, rects| picture.apply_auxiliary_view(Avc444Layout::V2, view, rects),
+    unit: 16,
 };
+
+const V2_32: Call = Call { ours: ours::apply_auxiliary_v2_32, theirs: wide::apply, unit: 32 };
 
 pub const MAIN_SUITE: Suite = Suite {
     name: "apply_main_view",
@@ -49,6 +54,13 @@ pub const V2_SUITE: Suite = Suite {
     about: "the cases of apply_main_view",
     run: |run| cases::every(run, &V2),
     replay: |run, words| replay(run, words, &V2),
+};
+
+pub const V2_32_SUITE: Suite = Suite {
+    name: "apply_auxiliary_v2_32",
+    about: cases::ABOUT_WIDTHS,
+    run: |run| cases::by_width(run, &V2_32),
+    replay: |run, words| replay(run, words, &V2_32),
 };
 
 fn replay(run: &mut Run, words: &[u64], call: &'static Call) -> Result<(), String> {

@@ -1,12 +1,12 @@
-//! Both splits timed.
+//! The splits timed.
 
 use std::hint::black_box;
 
 use original::avc444::{probe, Avc444Layout, Yuv444Frame};
 use original::decode::Yuv420Frame;
 
-use super::case::{Call, Outputs};
-use super::{V1, V2};
+use super::case::Call;
+use super::{V1, V2, V2_32};
 use crate::bench::{scale, Bench, Over, Pass, Sides, Weighing, SCALES};
 use crate::ours::Views;
 use crate::suites::noise::{Noise, LONGEST};
@@ -19,11 +19,38 @@ pub const V1_BENCH: Bench =
 pub const V2_BENCH: Bench =
     Bench { name: "split_v2", input: INPUT, bound: Some(0.4), over: Over::Frames(|w, h| sides(&V2, w, h)) };
 
+/// The frames are multiples of 32 wide, so that the original's split is the same.
+pub const V2_32_BENCH: Bench =
+    Bench { name: "split_v2_32", input: INPUT, bound: Some(0.4), over: Over::Frames(|w, h| sides(&V2_32, w, h)) };
+
+/// What the padding costs, a byte of the views: on a large picture, and on one whose rows are short.
+pub const V2_32_BYTES: Weighing = Weighing {
+    name: "split_v2_32",
+    input: "1904x1080, W 1920, a byte written, against split_v2",
+    bound: Some(1.15),
+    passes: || bytes(1904, 1080),
+};
+pub const V2_32_SMALL: Weighing = Weighing {
+    name: "split_v2_32",
+    input: "240x240, W 256, a byte written, against split_v2",
+    bound: Some(1.15),
+    passes: || bytes(240, 240),
+};
+
 pub const V1_SCALE: Weighing = Weighing { name: "split_v1", input: SCALES, bound: Some(2.0), passes: || scaled(&V1) };
 pub const V2_SCALE: Weighing = Weighing { name: "split_v2", input: SCALES, bound: Some(2.0), passes: || scaled(&V2) };
 
 fn scaled(call: &'static Call) -> [Pass; 2] {
     scale(|width, height| pass(call, width, height))
+}
+
+fn bytes(width: u16, height: u16) -> [Pass; 2] {
+    [&V2_32, &V2].map(|call| Pass { units: written(call, width, height), ..pass(call, width, height) })
+}
+
+/// Bytes of both views.
+fn written(call: &'static Call, width: u16, height: u16) -> u64 {
+    call.outputs(&Sizes::exact(width, height)).0.iter().sum::<usize>() as u64
 }
 
 fn sides(call: &'static Call, width: u16, height: u16) -> Sides {
@@ -36,7 +63,7 @@ fn sides(call: &'static Call, width: u16, height: u16) -> Sides {
 fn pass(call: &'static Call, width: u16, height: u16) -> Pass {
     let sizes = Sizes::exact(width, height);
     let planes = Noise::new(LONGEST).planes(0, sizes.lengths).map(<[u8]>::to_vec);
-    let mut outputs = Outputs::exact(&sizes).0.map(|length| vec![0; length]);
+    let mut outputs = call.outputs(&sizes).0.map(|length| vec![0; length]);
     Pass::new(u64::from(width) * u64::from(height), move || {
         let planes = planes.each_ref().map(|plane| black_box(plane.as_slice()));
         let views = call.ours(sizes.size, planes, outputs.each_mut().map(Vec::as_mut_slice));

@@ -1,6 +1,6 @@
 //! A split on both sides: number, sizes, strides, and every byte of the six outputs with their guard bytes.
 
-use original::avc444::{probe, Avc444Layout};
+use original::avc444::{probe, Avc444Layout, Yuv444Frame};
 use original::decode::{DecoderError, Yuv420Frame};
 
 use crate::answer::{picked, Answer};
@@ -17,9 +17,21 @@ type OurCall = fn(Size, [&[u8]; 3], [&mut [u8]; 3], [&mut [u8]; 3]) -> Views;
 pub struct Call {
     pub ours: OurCall,
     pub layout: Avc444Layout,
+    /// What the width is rounded up to for the views: 16, as the original does, or 32.
+    pub unit: usize,
 }
 
 impl Call {
+    /// How wide the views of a picture are.
+    pub fn wide(&self, sizes: &Sizes) -> usize {
+        usize::from(sizes.size.width).next_multiple_of(self.unit)
+    }
+
+    /// Outputs that just hold the views of a picture.
+    pub fn outputs(&self, sizes: &Sizes) -> Outputs {
+        Outputs::of_luma(self.wide(sizes) * usize::from(sizes.size.height).next_multiple_of(16))
+    }
+
     /// Ours, with the outputs in the order of `Outputs`.
     pub fn ours(&self, size: Size, planes: [&[u8]; 3], outputs: [&mut [u8]; 6]) -> Views {
         let [y, u, v, aux_y, aux_u, aux_v] = outputs;
@@ -32,9 +44,13 @@ impl Call {
 pub struct Outputs(pub [usize; 6]);
 
 impl Outputs {
-    /// Outputs that just hold the views of a picture.
+    /// Outputs that just hold the views of a picture, as wide as its planes.
     pub fn exact(sizes: &Sizes) -> Self {
-        let (luma, chroma) = (sizes.plane(), sizes.plane() / 4);
+        Self::of_luma(sizes.plane())
+    }
+
+    fn of_luma(luma: usize) -> Self {
+        let chroma = luma / 4;
         Self([luma, chroma, chroma, luma, chroma, chroma])
     }
 
@@ -102,7 +118,7 @@ impl<'a> Case<'a> {
     /// Refusals: 1, 5.
     pub fn new(call: &'static Call, source: &'a Source, sizes: Sizes) -> Self {
         let planes = source.planes(sizes.lengths);
-        let theirs = if sizes.is_short() { Err(1) } else { their_views(call.layout, &sizes, planes) };
+        let theirs = if sizes.is_short() { Err(1) } else { their_views(call, &sizes, planes) };
         Self { call, sizes, planes, theirs }
     }
 
@@ -140,13 +156,30 @@ impl<'a> Case<'a> {
 }
 
 /// What the original makes of planes that are long enough.
-fn their_views(layout: Avc444Layout, sizes: &Sizes, planes: [&[u8]; 3]) -> Result<Made, u32> {
+fn their_views(call: &Call, sizes: &Sizes, planes: [&[u8]; 3]) -> Result<Made, u32> {
     let Size { width, height } = sizes.size;
-    let picture = probe::with_planes(width, height, planes.map(|plane| &plane[..sizes.plane()]));
-    match picture.split(layout) {
+    let planes = planes.map(|plane| &plane[..sizes.plane()]);
+    let picture = match call.wide(sizes) {
+        wide if wide == usize::from(width).next_multiple_of(16) => probe::with_planes(width, height, planes),
+        wide => widened(wide, sizes, planes),
+    };
+    match picture.split(call.layout) {
         Ok((main, auxiliary)) => Ok(Made::new(&main, &auxiliary)),
         Err(error) => Err(number_of(&error)),
     }
+}
+
+/// The picture whose planes are so wide, with Y 0, and U and V 128, in the columns that these planes have not. Its width is that or, where
+/// that is 65,536, one less, which has the same planes.
+fn widened(wide: usize, sizes: &Sizes, planes: [&[u8]; 3]) -> Yuv444Frame {
+    let Size { width, height } = sizes.size;
+    let stride = usize::from(width).next_multiple_of(16);
+    let fills = [0, 128, 128];
+    let rows = [0, 1, 2].map(|plane| {
+        let padding = vec![fills[plane]; wide - stride];
+        planes[plane].chunks_exact(stride.max(1)).flat_map(|row| [row, &padding]).collect::<Vec<_>>().concat()
+    });
+    probe::with_planes(wide.min(65_535) as u16, height, rows.each_ref().map(Vec::as_slice))
 }
 
 /// The number that the original's words stand for.

@@ -1,4 +1,4 @@
-//! The cases of both splits: pictures to 49 by 49, wider and higher ones, and refusals.
+//! The cases of every split: pictures to 49 by 49, wider and higher ones, and refusals.
 
 use super::case::{Call, Case, Outputs};
 use crate::random::Random;
@@ -12,7 +12,7 @@ pub const ABOUT: &str =
 the picture a byte short, exact or longer; widths and heights about 16, 32 and 48 with the outputs in all 729 ways, and with the
 picture too short as well; every number of macroblocks to 65 wide or high
 named: widths 20, 34 and 62, where FreeRDP's encoder and combiner disagree; 65,520, which splits, and 65,521, which does not, in
-each direction, with the other side 0 and 1
+each direction, with the other side 0 and 1; 65,504 and 65,505 likewise, where the 32 rule ends
 random: pictures to 300 by 300, or 4,096 wide or high, seldom with something too short";
 
 /// Every case of a split.
@@ -27,13 +27,13 @@ pub fn every(run: &mut Run, call: &'static Call) {
     for blocks in 0..=65 {
         for (width, height) in [(16 * blocks, 33), (33, 16 * blocks)] {
             let sizes = Sizes::exact(width, height);
-            each_alone(run, &Case::new(call, &source, sizes), Outputs::exact(&sizes));
+            each_alone(run, &Case::new(call, &source, sizes), call.outputs(&sizes));
         }
     }
     while run.more() {
         let sizes = random_sizes(&mut run.random);
         let ways = random_ways(&mut run.random);
-        Case::new(call, &source, sizes).check(run, Outputs::exact(&sizes).changed(ways));
+        Case::new(call, &source, sizes).check(run, call.outputs(&sizes).changed(ways));
     }
 }
 
@@ -41,12 +41,12 @@ pub fn every(run: &mut Run, call: &'static Call) {
 fn named(run: &mut Run, call: &'static Call, source: &Source) {
     for width in [20, 34, 62] {
         let sizes = Sizes::exact(width, 16);
-        Case::new(call, source, sizes).check(run, Outputs::exact(&sizes));
+        Case::new(call, source, sizes).check(run, call.outputs(&sizes));
     }
-    for long in [65_519, 65_520, 65_521, 65_535] {
+    for long in [65_504, 65_505, 65_519, 65_520, 65_521, 65_535] {
         for (width, height) in [(long, 0), (0, long), (long, 1), (1, long)] {
             let sizes = Sizes::exact(width, height);
-            let outputs = Outputs::exact(&sizes);
+            let outputs = call.outputs(&sizes);
             let case_of = |sizes| Case::new(call, source, sizes);
             case_of(sizes).check(run, outputs);
             case_of(sizes).check(run, outputs.changed([0, 0, 0, 0, 0, 1]));
@@ -58,7 +58,7 @@ fn named(run: &mut Run, call: &'static Call, source: &Source) {
 
 /// All that a small picture is split into.
 fn small(run: &mut Run, call: &'static Call, source: &Source, sizes: Sizes) {
-    let exact = Outputs::exact(&sizes);
+    let exact = call.outputs(&sizes);
     let whole = Case::new(call, source, sizes);
     each_alone(run, &whole, exact);
     let every_way = is_about_16(sizes.size);
