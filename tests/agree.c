@@ -1,14 +1,18 @@
 /* The two layouts agree (demand 3), run at full speed over the library.
 
    A case is a picture, a list of rectangles and two earlier pictures of its size, all of them made of the seed and the case's number. The
-   picture is split as V1, and main, then auxiliary view go onto the first earlier picture over the list; the same as V2 onto the second.
-   Then every byte of every lent buffer is compared with what the statement says, worked out here from the rules' words alone: the
-   views are the picture's samples, luma and chroma are the picture's where some rectangle takes them, and as before elsewhere.
+   picture is split as V1, and main, then auxiliary view go onto the first earlier picture over the list; the same as V2 onto the second,
+   and as V2 by the 32 rule onto one more. Then every byte of every lent buffer is compared with what the statement says, worked out here
+   from the rules' words alone: the views are the picture's samples and, past its stride, Y 0 and U and V 128; luma and chroma are the
+   picture's where some rectangle takes them, and as before elsewhere. A width above 65,504 is refused with 5 by the 32 rule, and changes
+   nothing.
 
        agree [--seed N] [--cases N] [--seconds N] [--only CASE]
-       agree --self-test      alters a byte after the calls, in each layout: it has to be noticed
+       agree --self-test      alters a byte after the calls, in each layout and rule: it has to be noticed; and lays the views out by the
+                              16 rule where they are read by the 32 rule: that has to be noticed exactly where the two W differ
 
-   The last line has the cases, the bytes compared, the differences and the seed; the status is 1 if there is a difference. */
+   The last line has the cases, by the 32 rule those whose W is the stride, those where it is 16 more and those that are too wide for it,
+   the bytes compared, the differences and the seed; the status is 1 if there is a difference. */
 #include <stdint.h>
 #include <stdio.h>
 #include <stdlib.h>
@@ -19,6 +23,10 @@
 
 enum { GUARD = 24, RECTS = 12 };
 static const size_t PLANE = (size_t)16 << 20; /* a plane stays under this */
+
+/* The walks: the two layouts, and V2 by the 32 rule. */
+enum { V1 = 1, V2, V2_32, WALKS = V2_32 };
+static const char *const names[] = {"", "V1", "V2", "V2 by the 32 rule"};
 
 /* A plane of a picture or of a view, with GUARD bytes more that no call may change. */
 typedef struct { uint8_t *at; size_t plane, lent; } Lent;
@@ -32,7 +40,9 @@ typedef struct {
 } Case;
 
 static uint64_t compared, differences;
-static int altered; /* the layout in which the self-test alters a byte, or 0 */
+static uint64_t narrow, wide, refused; /* by the 32 rule: cases whose W is the stride, where it is 16 more, and too wide for it */
+static int altered; /* the walk in which the self-test alters a byte, or 0 */
+static int crossed; /* whether the self-test splits by the 16 rule what is read by the 32 rule: the views are not looked at then */
 
 static void *room(size_t n)
 {
@@ -85,6 +95,7 @@ static void done(Three t)
 }
 
 static size_t up16(size_t n) { return (n + 15) / 16 * 16; }
+static size_t up32(size_t n) { return (n + 31) / 32 * 32; }
 static size_t up2(size_t n) { return (n + 1) / 2 * 2; }
 static size_t least(size_t a, size_t b) { return a < b ? a : b; }
 
@@ -115,7 +126,8 @@ static uint16_t edge(uint16_t size)
     }
 }
 
-/* One case in 512 has a side of up to 65,520; the others are at most 160 each. */
+/* One case in 512 has a side of up to 65,520, and of these one in eight a width at the end of the 32 rule, 65,489 to 65,520; the others are
+   at most 160 each. */
 static Case made(uint64_t seed, uint64_t number)
 {
     Case c;
@@ -128,6 +140,10 @@ static Case made(uint64_t seed, uint64_t number)
             c.width = c.height;
             c.height = w;
         }
+        if (number % 4096 == 511) {
+            c.width = (uint16_t)(65489 + below(32));
+            c.height = side(64);
+        }
     } else {
         c.width = side(160);
         c.height = side(160);
@@ -139,11 +155,17 @@ static Case made(uint64_t seed, uint64_t number)
     return c;
 }
 
-static void differs(const Case *c, uint64_t seed, uint64_t number, const char *what, size_t at)
+static void differs(const Case *c, uint64_t seed, uint64_t number, int walk, const char *what, size_t at)
 {
-    if (differences++ > 4 || altered) return;
-    printf("agree: --seed %llu --only %llu: %ux%u, %zu rectangles: %s differs at byte %zu\n", (unsigned long long)seed,
-           (unsigned long long)number, c->width, c->height, c->count / 4, what, at);
+    if (differences++ > 4 || altered || crossed) return;
+    printf("agree: --seed %llu --only %llu: %ux%u, %zu rectangles, %s: %s differs at byte %zu\n", (unsigned long long)seed,
+           (unsigned long long)number, c->width, c->height, c->count / 4, names[walk], what, at);
+}
+
+/* How wide the views are. */
+static size_t width_of(const Case *c, int walk)
+{
+    return walk == V2_32 ? up32(c->width) : c->stride;
 }
 
 /* Which luma some rectangle takes: rows from top to below bottom and the picture's height, columns from left to below right and the
@@ -176,38 +198,41 @@ static size_t wrong_plane(Lent now, Lent before, Lent picture, const uint8_t *ma
     return now.plane;
 }
 
-/* The sample of the picture that each spot of the auxiliary view holds. */
-static uint8_t aux_luma(const Case *c, int layout, Three p, size_t r, size_t x)
+/* A sample of the picture, or what is past its stride. */
+static uint8_t seen(const Case *c, Lent plane, size_t r, size_t x, uint8_t past)
 {
-    if (layout == 1) {
+    return x < c->stride ? plane.at[r * c->stride + x] : past;
+}
+
+/* The sample of the picture that each spot of the auxiliary view holds; `w` is how wide the view is. */
+static uint8_t aux_luma(const Case *c, int walk, size_t w, Three p, size_t r, size_t x)
+{
+    if (walk == V1) {
         size_t in = r % 16, block = r - in;
         return in < 8 ? p.u.at[(block + 2 * in + 1) * c->stride + x] : p.v.at[(block + 2 * (in - 8) + 1) * c->stride + x];
     }
-    size_t half = c->stride / 2;
-    return x < half ? p.u.at[r * c->stride + 2 * x + 1] : p.v.at[r * c->stride + 2 * (x - half) + 1];
+    return x < w / 2 ? seen(c, p.u, r, 2 * x + 1, 128) : seen(c, p.v, r, 2 * (x - w / 2) + 1, 128);
 }
 
-static uint8_t aux_chroma(const Case *c, int layout, Three p, int second, size_t r, size_t x)
+static uint8_t aux_chroma(const Case *c, int walk, size_t w, Three p, int second, size_t r, size_t x)
 {
-    if (layout == 1) return (second ? p.v : p.u).at[2 * r * c->stride + 2 * x + 1];
-    size_t quarter = c->stride / 4, row = (2 * r + 1) * c->stride, from = second ? 2 : 0;
-    return x < quarter ? p.u.at[row + 4 * x + from] : p.v.at[row + 4 * (x - quarter) + from];
+    if (walk == V1) return (second ? p.v : p.u).at[2 * r * c->stride + 2 * x + 1];
+    size_t from = second ? 2 : 0;
+    return x < w / 4 ? seen(c, p.u, 2 * r + 1, 4 * x + from, 128) : seen(c, p.v, 2 * r + 1, 4 * (x - w / 4) + from, 128);
 }
 
-static size_t wrong_views(const Case *c, int layout, Three p, Three main, Three aux)
+static size_t wrong_views(const Case *c, int walk, size_t w, Three p, Three main, Three aux)
 {
-    size_t wrong = 0, half = c->stride / 2;
+    size_t wrong = 0, half = w / 2;
     for (size_t r = 0; r < c->rows; r++)
-        for (size_t x = 0; x < c->stride; x++)
-            wrong += (main.y.at[r * c->stride + x] != p.y.at[r * c->stride + x])
-                     + (aux.y.at[r * c->stride + x] != aux_luma(c, layout, p, r, x));
+        for (size_t x = 0; x < w; x++)
+            wrong += (main.y.at[r * w + x] != seen(c, p.y, r, x, 0)) + (aux.y.at[r * w + x] != aux_luma(c, walk, w, p, r, x));
     for (size_t r = 0; r < c->rows / 2; r++)
         for (size_t x = 0; x < half; x++)
-            wrong += (main.u.at[r * half + x] != p.u.at[2 * r * c->stride + 2 * x])
-                     + (main.v.at[r * half + x] != p.v.at[2 * r * c->stride + 2 * x])
-                     + (aux.u.at[r * half + x] != aux_chroma(c, layout, p, 0, r, x))
-                     + (aux.v.at[r * half + x] != aux_chroma(c, layout, p, 1, r, x));
-    compared += 3 * c->stride * c->rows;
+            wrong += (main.u.at[r * half + x] != seen(c, p.u, 2 * r, 2 * x, 128)) + (main.v.at[r * half + x] != seen(c, p.v, 2 * r, 2 * x, 128))
+                     + (aux.u.at[r * half + x] != aux_chroma(c, walk, w, p, 0, r, x))
+                     + (aux.v.at[r * half + x] != aux_chroma(c, walk, w, p, 1, r, x));
+    compared += 3 * w * c->rows;
     return wrong;
 }
 
@@ -219,9 +244,13 @@ static size_t wrong_guards(Three now, Three before)
                     + !!memcmp(now.v.at + now.v.plane, before.v.at + before.v.plane, GUARD));
 }
 
-static haythaw_views split(const Case *c, int layout, Three p, Three main, Three aux)
+typedef haythaw_views Split(uint16_t, uint16_t, const uint8_t *, size_t, const uint8_t *, size_t, const uint8_t *, size_t, uint8_t *, size_t,
+                            uint8_t *, size_t, uint8_t *, size_t, uint8_t *, size_t, uint8_t *, size_t, uint8_t *, size_t);
+
+static haythaw_views split(const Case *c, int walk, Three p, Three main, Three aux)
 {
-    return (layout == 1 ? haythaw_split_v1 : haythaw_split_v2)(
+    static Split *const calls[] = {NULL, haythaw_split_v1, haythaw_split_v2, haythaw_split_v2_32};
+    return calls[walk == V2_32 && crossed ? V2 : walk](
         c->width, c->height, p.y.at, p.y.lent, p.u.at, p.u.lent, p.v.at, p.v.lent, main.y.at, main.y.lent, main.u.at, main.u.lent,
         main.v.at, main.v.lent, aux.y.at, aux.y.lent, aux.u.at, aux.u.lent, aux.v.at, aux.v.lent);
 }
@@ -235,30 +264,67 @@ static uint32_t apply(Apply *call, const Case *c, Three onto, haythaw_views v, T
                 v.height, v.luma_stride, v.chroma_stride, view.y.at, view.y.lent, view.u.at, view.u.lent, view.v.at, view.v.lent);
 }
 
-/* The picture through one layout onto an earlier picture. */
-static void through(const Case *c, uint64_t seed, uint64_t number, int layout, Three picture, const uint8_t *luma, const uint8_t *chroma)
+/* What split answered, and the bytes of both views. */
+static haythaw_views split_of(const Case *c, uint64_t seed, uint64_t number, int walk, Three picture, Three main, Three aux)
 {
-    size_t plane = c->stride * c->rows;
-    Three earlier = three(plane, plane), onto = copies_of(earlier);
-    Three main = three(plane, plane / 4), aux = three(plane, plane / 4), main_was = copies_of(main), aux_was = copies_of(aux);
+    const size_t w = width_of(c, walk);
+    Three main_was = copies_of(main), aux_was = copies_of(aux);
+    haythaw_views v = split(c, walk, picture, main, aux);
+    if (!crossed && (v.number || v.width != w || v.height != c->rows || v.luma_stride != w || v.chroma_stride != w / 2))
+        differs(c, seed, number, walk, "the answer of split", 0);
+    if (!crossed && wrong_views(c, walk, w, picture, main, aux)) differs(c, seed, number, walk, "a view", 0);
+    if (wrong_guards(main, main_was) + wrong_guards(aux, aux_was)) differs(c, seed, number, walk, "what lies after a view", 0);
+    done(main_was), done(aux_was);
+    return v;
+}
 
-    haythaw_views v = split(c, layout, picture, main, aux);
-    if (v.number || v.width != c->stride || v.height != c->rows || v.luma_stride != c->stride || v.chroma_stride != c->stride / 2)
-        differs(c, seed, number, "the answer of split", 0);
-    if (wrong_views(c, layout, picture, main, aux)) differs(c, seed, number, layout == 1 ? "a view of V1" : "a view of V2", 0);
-    if (wrong_guards(main, main_was) + wrong_guards(aux, aux_was)) differs(c, seed, number, "what lies after a view", 0);
+/* The picture through one layout, by one rule, onto an earlier picture. */
+static void through(const Case *c, uint64_t seed, uint64_t number, int walk, Three picture, const uint8_t *luma, const uint8_t *chroma)
+{
+    static Apply *const auxiliary[] = {NULL, haythaw_apply_auxiliary_v1, haythaw_apply_auxiliary_v2, haythaw_apply_auxiliary_v2_32};
+    size_t plane = c->stride * c->rows, large = width_of(c, walk) * c->rows;
+    Three earlier = three(plane, plane), onto = copies_of(earlier), main = three(large, large / 4), aux = three(large, large / 4);
+    haythaw_views v = split_of(c, seed, number, walk, picture, main, aux);
 
-    if (apply(haythaw_apply_main_view, c, onto, v, main)) differs(c, seed, number, "the number of the main view", 0);
-    if (apply(layout == 1 ? haythaw_apply_auxiliary_v1 : haythaw_apply_auxiliary_v2, c, onto, v, aux))
-        differs(c, seed, number, "the number of the auxiliary view", 0);
-    if (altered == layout && plane) onto.v.at[plane - 1] ^= 1;
+    if (apply(haythaw_apply_main_view, c, onto, v, main)) differs(c, seed, number, walk, "the number of the main view", 0);
+    if (apply(auxiliary[walk], c, onto, v, aux)) differs(c, seed, number, walk, "the number of the auxiliary view", 0);
+    if (altered == walk && plane) onto.v.at[plane - 1] ^= 1;
     size_t y = wrong_plane(onto.y, earlier.y, picture.y, luma);
     size_t u = wrong_plane(onto.u, earlier.u, picture.u, chroma);
     size_t w = wrong_plane(onto.v, earlier.v, picture.v, chroma);
-    if (y < onto.y.lent) differs(c, seed, number, layout == 1 ? "Y after V1" : "Y after V2", y);
-    if (u < onto.u.lent) differs(c, seed, number, layout == 1 ? "U after V1" : "U after V2", u);
-    if (w < onto.v.lent) differs(c, seed, number, layout == 1 ? "V after V1" : "V after V2", w);
-    done(earlier), done(onto), done(main), done(aux), done(main_was), done(aux_was);
+    if (y < onto.y.lent) differs(c, seed, number, walk, "Y", y);
+    if (u < onto.u.lent) differs(c, seed, number, walk, "U", u);
+    if (w < onto.v.lent) differs(c, seed, number, walk, "V", w);
+    done(earlier), done(onto), done(main), done(aux);
+}
+
+static int same_three(Three a, Three b)
+{
+    return !memcmp(a.y.at, b.y.at, b.y.lent) && !memcmp(a.u.at, b.u.at, b.u.lent) && !memcmp(a.v.at, b.v.at, b.v.lent);
+}
+
+/* A W above 65,535: 5, and no byte of views that would be long enough changes. */
+static void too_wide(const Case *c, uint64_t seed, uint64_t number, Three picture)
+{
+    size_t large = width_of(c, V2_32) * c->rows;
+    Three main = three(large, large / 4), aux = three(large, large / 4), main_was = copies_of(main), aux_was = copies_of(aux);
+    haythaw_views v = split(c, V2_32, picture, main, aux);
+    if (v.number != 5 || v.width || v.height || v.luma_stride || v.chroma_stride) differs(c, seed, number, V2_32, "the refusal of split", 0);
+    if (!same_three(main, main_was) || !same_three(aux, aux_was)) differs(c, seed, number, V2_32, "a view that was refused", 0);
+    compared += 3 * large + 6 * GUARD;
+    done(main), done(aux), done(main_was), done(aux_was);
+}
+
+/* The walk by the 32 rule, counted by what W is. */
+static void by_32(const Case *c, uint64_t seed, uint64_t number, Three picture, const uint8_t *luma, const uint8_t *chroma)
+{
+    if (c->width > 65504) {
+        refused++;
+        too_wide(c, seed, number, picture);
+        return;
+    }
+    ++*(width_of(c, V2_32) == c->stride ? &narrow : &wide);
+    through(c, seed, number, V2_32, picture, luma, chroma);
 }
 
 static void run(uint64_t seed, uint64_t number)
@@ -268,26 +334,69 @@ static void run(uint64_t seed, uint64_t number)
     uint8_t *luma = room(plane), *chroma = room(plane);
     mark(&c, luma, chroma);
     Three picture = three(plane, plane), was = copies_of(picture);
-    through(&c, seed, number, 1, picture, luma, chroma);
-    through(&c, seed, number, 2, picture, luma, chroma);
-    if (memcmp(picture.y.at, was.y.at, was.y.lent) || memcmp(picture.u.at, was.u.at, was.u.lent) || memcmp(picture.v.at, was.v.at, was.v.lent))
-        differs(&c, seed, number, "the picture itself", 0);
+    through(&c, seed, number, V1, picture, luma, chroma);
+    through(&c, seed, number, V2, picture, luma, chroma);
+    by_32(&c, seed, number, picture, luma, chroma);
+    if (!same_three(picture, was)) differs(&c, seed, number, 0, "the picture itself", 0);
     done(picture), done(was);
     free(luma), free(chroma);
 }
 
-/* A byte altered in one layout is one difference. */
-static int self_test(void)
+/* A byte altered in one walk is one difference. */
+static int alter_each(void)
 {
-    for (altered = 1; altered <= 2; altered++) {
+    for (altered = 1; altered <= WALKS; altered++) {
         differences = 0;
         run(1, 511);
         if (differences != 1) {
-            printf("agree: an altered byte in layout V%d was not noticed\n", altered);
+            printf("agree: an altered byte in %s was not noticed\n", names[altered]);
             return 1;
         }
     }
-    printf("agree: an altered byte is noticed in each layout\n");
+    altered = 0;
+    return 0;
+}
+
+/* Whether the list takes any chroma. */
+static int takes(const Case *c)
+{
+    size_t plane = c->stride * c->rows;
+    uint8_t *luma = room(plane), *chroma = room(plane);
+    mark(c, luma, chroma);
+    int any_taken = plane && memchr(chroma, 1, plane);
+    free(luma), free(chroma);
+    return any_taken;
+}
+
+/* Cases that take some chroma, their views laid out by the 16 rule and read by the 32 rule: the picture that arrives is another one in every
+   case where the two W differ, and the right one where they do not. Counts both. */
+static int cross(uint64_t *apart, uint64_t *alike)
+{
+    crossed = 1;
+    for (uint64_t number = 0; number < 400; number++) {
+        Case c = made(1, number);
+        int same_w = up32(c.width) == c.stride;
+        if (!takes(&c)) continue;
+        differences = 0;
+        run(1, number);
+        if ((differences == 0) != same_w) {
+            printf("agree: views of the 16 rule read by the 32 rule: --only %llu: %ux%u is %s\n", (unsigned long long)number, c.width, c.height,
+                   differences ? "wrong" : "not noticed");
+            return 1;
+        }
+        ++*(same_w ? alike : apart);
+    }
+    crossed = 0;
+    return 0;
+}
+
+static int self_test(void)
+{
+    uint64_t apart = 0, alike = 0;
+    if (alter_each() || cross(&apart, &alike)) return 1;
+    printf("agree: an altered byte is noticed in each layout and by the 32 rule; views of the 16 rule that are read by the 32 rule are "
+           "noticed in %llu cases, and are right in %llu, whose W is the stride\n",
+           (unsigned long long)apart, (unsigned long long)alike);
     return 0;
 }
 
@@ -296,7 +405,9 @@ int main(int argc, char **argv)
     if (argc == 2 && !strcmp(argv[1], "--self-test")) return self_test();
     const Options options = options_of("agree", 40000, argc, argv);
     const uint64_t ran = walk("agree", "cases", options, &differences, run);
-    printf("agree: %llu cases through both layouts, %llu bytes compared, %llu differences, seed %llu\n", (unsigned long long)ran,
+    printf("agree: %llu cases through both layouts, and by the 32 rule: %llu with W the stride, %llu with 16 more, %llu too wide for it; "
+           "%llu bytes compared, %llu differences, seed %llu\n",
+           (unsigned long long)ran, (unsigned long long)narrow, (unsigned long long)wide, (unsigned long long)refused,
            (unsigned long long)compared, (unsigned long long)differences, (unsigned long long)options.seed);
     return differences != 0;
 }

@@ -7,16 +7,27 @@
 
 #include "test/check.h"
 
-/* Which bytes of a slice the call may write: its first so many. The rows of a picture and of its views are padded to 16. */
+/* How wide the views of a split are: as the stride or, by the 32 rule, as the width rounded up to 32. */
+static size_t views_width(enum call call, const Args *a)
+{
+    return up_to(a->width, call == SPLIT_V2_32 ? 32 : 16);
+}
+
+static bool splits(enum call call)
+{
+    return call == SPLIT_V1 || call == SPLIT_V2 || call == SPLIT_V2_32;
+}
+
+/* Which bytes of a slice the call may write: its first so many. The rows of a picture are padded to 16. */
 static size_t may_write(enum call call, const Args *a, const Result *r, enum slice s)
 {
-    const size_t plane = up_to(a->width, 16) * up_to(a->height, 16);
+    const size_t plane = up_to(a->width, 16) * up_to(a->height, 16), luma = views_width(call, a) * up_to(a->height, 16);
     if (r->number != 0)
         return 0;
     switch (call) {
     case NEW: case FROM_RGBA: case FROM_RGBA_RUST: case MAIN: return s <= V ? plane : 0;
-    case AUX_V1: case AUX_V2: return s == U || s == V ? plane : 0;
-    case SPLIT_V1: case SPLIT_V2: return s == MAIN_Y || s == AUX_Y ? plane : s > MAIN_Y && s <= AUX_V ? plane / 4 : 0;
+    case AUX_V1: case AUX_V2: case AUX_V2_32: return s == U || s == V ? plane : 0;
+    case SPLIT_V1: case SPLIT_V2: case SPLIT_V2_32: return s == MAIN_Y || s == AUX_Y ? luma : s > MAIN_Y && s <= AUX_V ? luma / 4 : 0;
     case TO_RGBA: case VIEW_TO_RGBA: case ANNEX_B: case WRITE: return s == OUT ? r->count : 0;
     case LUMA_RECTS: case CHROMA_RECTS: return s == NUMBERS ? 2 * r->count : 0;
     default: return 0;
@@ -29,9 +40,9 @@ static bool has_present(enum call call)
 }
 
 /* The answer of a split, from its picture's size. */
-static bool is_split(const Result *r, const Args *a)
+static bool is_split(enum call call, const Result *r, const Args *a)
 {
-    return r->width == up_to(a->width, 16) && r->height == up_to(a->height, 16) && r->luma_stride == r->width &&
+    return r->width == views_width(call, a) && r->height == up_to(a->height, 16) && r->luma_stride == r->width &&
            r->chroma_stride == r->width / 2u;
 }
 
@@ -59,7 +70,7 @@ static const Field *fields_of(int call)
     case TO_RGBA: return pixels;
     case VIEW_TO_RGBA: case ANNEX_B: case LUMA_RECTS: case CHROMA_RECTS: case WRITE: return answer;
     case LUMA_ROW: case U_ROW: case V_ROW: return row;
-    case SPLIT_V1: case SPLIT_V2: return views;
+    case SPLIT_V1: case SPLIT_V2: case SPLIT_V2_32: return views;
     case READ: return avc444;
     case LUMA_RECTANGLE: case CHROMA_RECTANGLE: return rectangle;
     case LUMA_PAIR: case CHROMA_PAIR: return pair;
@@ -121,8 +132,8 @@ static Result asked(enum call call, const Args *a)
     alter_fields(call, &r);
     if (r.number != 0 || (has_present(call) && !r.present))
         check(is_refusal(&r, r.number), call_names[call], "more than a number is answered");
-    else if (call == SPLIT_V1 || call == SPLIT_V2)
-        check(is_split(&r, a), call_names[call], "the views' sizes and strides");
+    else if (splits(call))
+        check(is_split(call, &r, a), call_names[call], "the views' sizes and strides");
     if (r.number != 0)
         check(lent_kept(), call_names[call], "a refusal changed a byte");
     else

@@ -1,5 +1,5 @@
-/* refusals_layouts: the main view and both auxiliary views applied: 1, 7, 3 and 4, in this order, each number at the edge where it begins.
- * A line has the answer, and what the lent bytes are afterwards: unchanged, or a checksum of what was written. */
+/* refusals_layouts: the main view and the auxiliary views applied, V2 by both rules: 1, 7, 3 and 4, in this order, each number at the edge
+ * where it begins. A line has the answer, and what the lent bytes are afterwards: unchanged, or a checksum of what was written. */
 #ifndef STORED_REFUSALS_LAYOUTS_H
 #define STORED_REFUSALS_LAYOUTS_H
 
@@ -61,31 +61,92 @@ static const AppliedCase applied_cases[] = {
     {"odd, empty", 5, 5, EXACT_PLANES, 4, {5, 0, 5, 4}, EXACT_VIEW},
 };
 
-static void applied_line(const char *view_name, enum call call, const AppliedCase *c)
+/* The same cases with a view of 32 x 16, for the 32 rule: a picture of 5 x 5 counts as 32 wide there. */
+#define EXACT_32 32, 16, {512, 128, 128}
+static const AppliedCase applied_32_cases[] = {
+    /* lists */
+    {"list of 4", 5, 5, EXACT_PLANES, LIST_OF(4), EXACT_32},
+    {"list of 8", 5, 5, EXACT_PLANES, LIST_OF(8), EXACT_32},
+    {"list of 0", 5, 5, EXACT_PLANES, LIST_OF(0), EXACT_32},
+    {"list of 3", 5, 5, EXACT_PLANES, LIST_OF(3), EXACT_32},
+    {"list of 5", 5, 5, EXACT_PLANES, LIST_OF(5), EXACT_32},
+    /* planes */
+    {"one over", 5, 5, {257, 257, 257}, LIST_OF(4), 32, 16, {513, 129, 129}},
+    {"y short", 5, 5, {255, 256, 256}, LIST_OF(4), EXACT_32},
+    {"u short", 5, 5, {256, 255, 256}, LIST_OF(4), EXACT_32},
+    {"v short", 5, 5, {256, 256, 255}, LIST_OF(4), EXACT_32},
+    /* views */
+    {"wide", 5, 5, EXACT_PLANES, LIST_OF(4), 33, 17, {528, 136, 136}},
+    {"luma 31", 5, 5, EXACT_PLANES, LIST_OF(4), 31, 16, {512, 128, 128}},
+    {"chroma 15", 5, 5, EXACT_PLANES, LIST_OF(4), 32, 15, {512, 128, 128}},
+    {"view y short", 5, 5, EXACT_PLANES, LIST_OF(4), 32, 16, {511, 128, 128}},
+    {"view u short", 5, 5, EXACT_PLANES, LIST_OF(4), 32, 16, {512, 127, 128}},
+    {"view v short", 5, 5, EXACT_PLANES, LIST_OF(4), 32, 16, {512, 128, 127}},
+    {"wide, y short", 5, 5, EXACT_PLANES, LIST_OF(4), 33, 17, {527, 136, 136}},
+    {"wide, v short", 5, 5, EXACT_PLANES, LIST_OF(4), 33, 17, {528, 136, 135}},
+    {"luma 2^63", 5, 5, EXACT_PLANES, LIST_OF(4), (size_t)1 << 63, 16, {530, 128, 128}},
+    /* several at once */
+    {"1 and 7", 5, 5, SHORT_PLANES, LIST_OF(3), EXACT_32},
+    {"1 and 3", 5, 5, SHORT_PLANES, LIST_OF(4), 31, 16, {512, 128, 128}},
+    {"1 and 4", 5, 5, SHORT_PLANES, LIST_OF(4), 32, 16, {511, 128, 128}},
+    {"7 and 3", 5, 5, EXACT_PLANES, LIST_OF(3), 31, 16, {512, 128, 128}},
+    {"7 and 4", 5, 5, EXACT_PLANES, LIST_OF(3), 32, 16, {511, 128, 128}},
+    {"3 and 4", 5, 5, EXACT_PLANES, LIST_OF(4), 31, 16, {495, 128, 128}},
+    {"all four", 5, 5, SHORT_PLANES, LIST_OF(3), 31, 16, {495, 128, 128}},
+    /* no pixels: the planes are empty */
+    {"0 x 0", 0, 0, {0, 0, 0}, LIST_OF(4), EXACT_32},
+    {"0 x 5", 0, 5, {0, 0, 0}, LIST_OF(4), EXACT_32},
+    {"5 x 0", 5, 0, {0, 0, 0}, LIST_OF(4), EXACT_32},
+    {"0 x 0, list of 3", 0, 0, {0, 0, 0}, LIST_OF(3), EXACT_32},
+    {"65535 x 0", 65535, 0, {0, 0, 0}, LIST_OF(4), EXACT_32},
+    /* rectangles */
+    {"no column", 5, 5, EXACT_PLANES, 4, {4, 0, 4, 4}, EXACT_32},
+    {"reversed", 5, 5, EXACT_PLANES, 4, {4, 4, 0, 0}, EXACT_32},
+    {"off", 5, 5, EXACT_PLANES, 4, {6, 6, 9, 9}, EXACT_32},
+    {"odd, empty", 5, 5, EXACT_PLANES, 4, {5, 0, 5, 4}, EXACT_32},
+};
+
+/* And with one of 16 x 16, which the 32 rule finds no V in. */
+static const AppliedCase no_v_cases[] = {
+    {"list of 4", 5, 5, EXACT_PLANES, LIST_OF(4), EXACT_VIEW},
+    {"list of 3", 5, 5, EXACT_PLANES, LIST_OF(3), EXACT_VIEW},
+};
+
+/* A call, how wide the view is, and the cases. */
+typedef struct { const char *name; enum call call; uint16_t view_width; const AppliedCase *cases; size_t count; } AppliedFile;
+#define CASES_OF(cases) cases, sizeof cases / sizeof *cases
+static const AppliedFile applied_files[] = {
+    {"main", MAIN, VIEW_SIDE, CASES_OF(applied_cases)},
+    {"auxiliary v1", AUX_V1, VIEW_SIDE, CASES_OF(applied_cases)},
+    {"auxiliary v2", AUX_V2, VIEW_SIDE, CASES_OF(applied_cases)},
+    {"auxiliary v2 32", AUX_V2_32, 2 * VIEW_SIDE, CASES_OF(applied_32_cases)},
+    {"auxiliary v2 32, 16 wide", AUX_V2_32, VIEW_SIDE, CASES_OF(no_v_cases)},
+};
+
+static void applied_line(const AppliedFile *file, const AppliedCase *c)
 {
     Args a = {0};
     a.width = c->width, a.height = c->height;
-    a.view_width = VIEW_SIDE, a.view_height = VIEW_SIDE, a.luma_stride = c->luma, a.chroma_stride = c->chroma;
+    a.view_width = file->view_width, a.view_height = VIEW_SIDE, a.luma_stride = c->luma, a.chroma_stride = c->chroma;
     for (int p = 0; p < 3; p++) {
         lend_all(&a, (enum slice)(Y + p), c->planes[p], UNWRITTEN);
         lend_all(&a, (enum slice)(VIEW_Y + p), c->view[p], VIEW_BYTE);
     }
     lend_numbers(&a, RECTS, c->list, c->numbers);
-    const Result r = asked(call, &a);
-    printf("%s: ", view_name);
+    const Result r = asked(file->call, &a);
+    printf("%s: ", file->name);
     say_answer(c->name, &r);
     say_planes(&a, UNWRITTEN, APPLIED_PLANE);
     say_read(", view ", &a, VIEW_Y, VIEW_V, VIEW_BYTE);
     printf("\n");
-    over(call);
+    over(file->call);
 }
 
 static void refusals_layouts(void)
 {
-    static const char *const names[3] = {"main", "auxiliary v1", "auxiliary v2"};
-    for (int view = 0; view < 3; view++)
-        for (size_t k = 0; k < sizeof applied_cases / sizeof *applied_cases; k++)
-            applied_line(names[view], (enum call)(MAIN + view), &applied_cases[k]);
+    for (size_t f = 0; f < sizeof applied_files / sizeof *applied_files; f++)
+        for (size_t k = 0; k < applied_files[f].count; k++)
+            applied_line(&applied_files[f], &applied_files[f].cases[k]);
 }
 
 #endif
