@@ -372,6 +372,72 @@ def draw_layout(layout):
     return picture(low + 8 * CELL + 190, f'Layout {layout.name}: where a macroblock’s chroma travels', description, out)
 
 
+# --- v2_width.svg: a row of V2's auxiliary view by both width rules, for a surface that they differ for.
+
+SURFACE = 48                                                      # a surface's width, which is its stride
+NARROW, WIDER = round_up(16, SURFACE), round_up(32, SURFACE)      # W by the 16 rule and by the 32 rule
+ROW_LEFT, ROW_CELL = 40, 13                                       # a cell of luma; one of chroma is twice as wide
+
+
+def pieces_of(part, wide):
+    """The pieces of a row of a plane: U, V or what stands past the stride, where it starts, and the picture's columns that its samples have."""
+    out = []
+    for j in range(wide if part == 'Y' else wide // 2):
+        k, r, c = from_v2(part, 0, j, wide)
+        assert to_v2(k, r, c, wide) == (part, 0, j)
+        name = k if c < SURFACE else '128'
+        if not out or out[-1][0] != name:
+            out.append((name, j, []))
+        out[-1][2].append(c)
+    return out
+
+
+def start_of_v(part, wide):
+    return next(start for name, start, _ in pieces_of(part, wide) if name == 'V')
+
+
+def piece_words(name, columns):
+    return f'{len(columns)} x 128' if name == '128' else f'{len(columns)} of {name}: columns {columns[0]}, {columns[1]} .. {columns[-1]}'
+
+
+def row_words(part, wide):
+    return ', then '.join(piece_words(name, columns) for name, _, columns in pieces_of(part, wide))
+
+
+def row_drawn(y, part, wide, colour, heads):
+    """A row of a plane, its columns above it where a piece starts, and what its pieces are below it."""
+    side, out = ROW_CELL if part == 'Y' else 2 * ROW_CELL, [text(ROW_LEFT, y - 20, heads, 13, font_weight='bold')]
+    for name, start, columns in pieces_of(part, wide):
+        x, long = ROW_LEFT + start * side, len(columns) * side
+        out += [box(x + i * side, y, side, 26, PALE if name == '128' else colour, '#ffffff') for i in range(len(columns))]
+        out += [box(x, y, long, 26, 'url(#lined)')] * (name == 'V') + [box(x, y, long, 26, 'none', INK, 1.2), text(x, y - 4, start, 10, 'middle', fill='#444444'),
+                                                                      brace(x, y + 29, long, piece_words(name, columns), 11.5)]
+    end = ROW_LEFT + side * (wide if part == 'Y' else wide // 2)
+    return out + [text(end, y - 4, (end - ROW_LEFT) // side, 10, 'middle', fill='#444444')]
+
+
+def v_moved(y, part, low):
+    """From where V starts by the one rule to where it starts by the other."""
+    side, (first, second) = ROW_CELL if part == 'Y' else 2 * ROW_CELL, [start_of_v(part, wide) for wide in (NARROW, WIDER)]
+    x, to = ROW_LEFT + first * side, ROW_LEFT + second * side
+    return [path(f'M{x} {y}V{low}M{to} {low - 10}V{low + 12}', RED, 1.6, stroke_dasharray='4 3'), path(f'M{x} {low}h{to - x}m-6 -4l6 4l-6 4', RED, 1.8),
+            text(to + 8, low + 4, f'V: {second - first} columns further', 12, fill=RED, font_weight='bold')]
+
+
+def draw_v2_width():
+    words = 'Below each piece: how many samples it has, and which columns of the picture they are. Hatched: V. Past the stride U and V are 128.'
+    out, said, y = ['<defs>' + hatch('lined', '#00000055') + '</defs>', text(12, 50, words, 12)], [words], 104
+    for part, colour, name in (('Y', SKY, 'Y plane'), ('U', ORANGE, 'U plane, odd rows of the picture (V plane: columns 2, 6 .. 46)')):
+        low = y + 118
+        out += [*row_drawn(y, part, NARROW, colour, f'{name}, the 16 rule: W = {NARROW}'), *row_drawn(low, part, WIDER, colour, f'the 32 rule: W = {WIDER}'),
+                *v_moved(y + 26, part, low - 32)]
+        crop = ROW_LEFT + SURFACE * ROW_CELL
+        out += [path(f'M{crop} {low - 24}v54', INK, 2, stroke_dasharray='6 3'), text(crop + 6, low - 18, f'a view that is cropped to {SURFACE} ends here', 11)]
+        said += [f'{name}: by the 16 rule, W = {NARROW}, {row_words(part, NARROW)}; by the 32 rule, W = {WIDER}, {row_words(part, WIDER)}.']
+        y = low + 118
+    return picture(y - 54, f'V2’s auxiliary view of a surface {SURFACE} wide: a row by both width rules', ' '.join(said), out)
+
+
 # --- widening.svg: which samples a rectangle takes.
 
 PADDED = Size(16, 16)
@@ -696,7 +762,7 @@ def draw_products():
 
 # --- The files.
 
-DRAWINGS = {'v1.svg': lambda: draw_layout(V1), 'v2.svg': lambda: draw_layout(V2), 'widening.svg': draw_widening,
+DRAWINGS = {'v1.svg': lambda: draw_layout(V1), 'v2.svg': lambda: draw_layout(V2), 'v2_width.svg': draw_v2_width, 'widening.svg': draw_widening,
             'payload.svg': draw_payload, 'filter.svg': draw_filter, 'products.svg': draw_products}
 
 

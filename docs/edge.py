@@ -9,19 +9,12 @@ It needs a C compiler (cc) and makes the library first where that is not made (o
 """
 from drawings import (GREY, INK, box, filtered_of, forward_of, hatch, hexadecimal, ink_on, left_out, lines, path, picture, reverse_of, reversed_of,
                       text)
-from maps import FRESH, NAMES, block_at, mean, off, row_of, ways_of
+from maps import COLOURS, FRESH, NAMES, block_at, map_of, mean, off, row_of, ways_of
 from through import asked, keep, stop
-
-COLOURS = {'b': (30, 60, 220), 'c': (0, 190, 235), 'g': (40, 170, 60), 'y': (250, 220, 30), 'r': (225, 30, 30),     # from cold to warm
-           's': (185, 215, 235), 'l': (205, 225, 180), 'm': (255, 0, 255)}                                          # sea, land, a warning
 
 # Two patterns that are sent in every size of 1x1 to 17x17: which of the five temperatures a pixel has.
 PATTERNS = {'bands': lambda r, c: (2 * r + c) // 6 % 5, 'speckle': lambda r, c: (r + 2 * c) % 5}
 SIZES = [(width, height) for height in range(1, 18) for width in range(1, 18)]
-
-
-def map_of(letters):
-    return [[COLOURS[letter] for letter in row] for row in letters.split()]
 
 
 def patterned(pattern, width, height):

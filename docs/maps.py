@@ -1,6 +1,6 @@
-"""Maps through the library, for the pages that show what becomes of one: docs/edge.py and docs/colour_error.py. Each goes through docs/maps.c, over
-bind/c/haythaw.h: from RGBA by both calls, split, applied to a fresh picture, and to RGBA. What comes back is held to the rules' own formulas, worked
-out here."""
+"""Maps through the library, for the pages that show what becomes of one: docs/edge.py and docs/colour_error.py, and docs/width_views.py for one more.
+Each goes through docs/maps.c, over bind/c/haythaw.h: from RGBA by both calls, split, applied to a fresh picture, and to RGBA. What comes back is held to
+the rules' own formulas, worked out here."""
 from collections import namedtuple
 
 from drawings import applied_of, average_of, filtered_of, forward_of, left_out, reverse_of, round_up
@@ -12,6 +12,15 @@ Made = namedtuple('Made', 'planes alone both applied')
 # The pixels of a map, row by row, and what the two calls make of it.
 Way = namedtuple('Way', 'pixels rust filled')
 NAMES = {'rust': 'the Rust’s rule', 'filled': 'edge filled', 'alone': 'main view alone', 'both': 'both views'}
+
+# A map may be written in letters, a word for each row.
+COLOURS = {'b': (30, 60, 220), 'c': (0, 190, 235), 'g': (40, 170, 60), 'y': (250, 220, 30), 'o': (255, 127, 14), 'r': (225, 30, 30),  # from cold to warm
+           's': (185, 215, 235), 'l': (205, 225, 180), 'm': (255, 0, 255),                                                           # sea, land, a warning
+           '.': (255, 255, 255), '-': (160, 160, 160), '#': (0, 0, 0)}                                                               # paper, grid, ink
+
+
+def map_of(letters):
+    return [[COLOURS[letter] for letter in row] for row in letters.split()]
 
 
 # --- The rules: from_rgba/specs/Edges.antt, FromRgba.antt, apply_main/specs/Main.antt, to_rgba_rows/specs; a sample is Y, U and V.

@@ -1,6 +1,6 @@
-"""The way through the library, for the pages whose every number it answered: docs/filter.py, docs/edge.py, docs/colour_error.py, and docs/own_bar.py;
-all but the first by docs/maps.py. It leads through a C program over bind/c/haythaw.h (docs/filter.c, docs/maps.c, docs/colour_error.c), which reads
-lines of numbers and answers such lines."""
+"""The way through the library, for the pages whose every number it answered: docs/filter.py, docs/edge.py, docs/colour_error.py, docs/width_rule.py, and
+docs/own_bar.py; all but the first by docs/maps.py or docs/width_views.py. It leads through a C program over bind/c/haythaw.h (docs/filter.c, docs/maps.c,
+docs/colour_error.c, docs/width_rule.c), which reads lines of numbers and answers such lines."""
 import os
 import subprocess
 import sys
