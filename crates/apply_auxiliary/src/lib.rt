@@ -5,7 +5,7 @@
 // that a caller leans on are in proofs/Laws.antt.
 ghost use mathlib.Core.Path.{_≡_};
 ghost use mathlib.Core.List.{[], _∷_};
-ghost use Prim.Native.Nat.{_*_, _≤_};
+ghost use Prim.Native.Nat.{_*_, _%_, _≤_};
 ghost use lib.ListN.{length};
 ghost use Rattle.lent.specs.Paint.{painted};
 ghost use Rattle.picture.specs.Sizes.{strideOf, rowsOf};
@@ -16,6 +16,7 @@ ghost use Rattle.rects.specs.Rects.{by};
 ghost use Rattle.apply_auxiliary_rows.specs.Rows.{auxiliarySource, AreaFits};
 ghost use Rattle.apply_auxiliary.specs.Auxiliary.{auxiliaryIn, auxiliaryRule, auxiliaryAfter, ApplyAuxiliaryViewOutcome};
 use apply_auxiliary_rows::v1::v1_row;
+use apply_auxiliary_rows::v2::v2_even_row;
 use apply_auxiliary_rows::v2::v2_row;
 use layout::Layout;
 use picture::Size;
@@ -50,7 +51,7 @@ fn v1_rows(
     }
 }
 
-// The rows of the area, one after the other, by V2; `wide` is its W.
+// The rows of the area by V2, two at a time: an even row takes its odd columns alone, and no test for that is left in the loop. `wide` is W.
 fn v2_rows(
     u: &mut [u8],
     v: &mut [u8],
@@ -64,6 +65,7 @@ fn v2_rows(
 )
     requires { ⌜ AreaFits size (length (now u)) (area .bottom) (area .left) (area .right) ⌝ }
     requires { ⌜ AreaFits size (length (now v)) (area .bottom) (area .left) (area .right) ⌝ }
+    requires { ⌜ (area .top % 2 ≡ 0) × (area .bottom % 2 ≡ 0) ⌝ }
     requires { ⌜ ViewFits w (length (now vy)) (length (now vu)) (length (now vv)) ⌝ }
     ensures u { λ _. ⌜ now (u .exit) ≡ painted (strideOf size) (rowsOf size) (auxiliaryIn (V2 wide) w area)
         (auxiliarySource (V2 wide) CU w (now (vy .entry)) (now (vu .entry)) (now (vv .entry))) (now (u .entry)) ⌝ }
@@ -72,8 +74,10 @@ fn v2_rows(
 {
     let mut row = area.top;
     while row < area.bottom {
-        v2_row(u, v, size, wide, w, vy, vu, vv, row, area.left, area.right);
-        row += 1;
+        v2_even_row(u, v, size, wide, w, vy, row, area.left, area.right);
+        let odd = row + 1;
+        v2_row(u, v, size, wide, w, vy, vu, vv, odd, area.left, area.right);
+        row += 2;
     }
 }
 
@@ -91,6 +95,7 @@ fn auxiliary_rows(
 )
     requires { ⌜ AreaFits size (length (now u)) (area .bottom) (area .left) (area .right) ⌝ }
     requires { ⌜ AreaFits size (length (now v)) (area .bottom) (area .left) (area .right) ⌝ }
+    requires { ⌜ (area .top % 2 ≡ 0) × (area .bottom % 2 ≡ 0) ⌝ }
     requires { ⌜ ViewFits w (length (now vy)) (length (now vu)) (length (now vv)) ⌝ }
     ensures u { λ _. ⌜ now (u .exit) ≡ painted (strideOf size) (rowsOf size) (auxiliaryIn layout w area)
         (auxiliarySource layout CU w (now (vy .entry)) (now (vu .entry)) (now (vv .entry))) (now (u .entry)) ⌝ }

@@ -197,3 +197,27 @@ pub fn v2_row(
     v2_odds(u, v, size, wide, w, vy, row, mid, right);
     v2_evens(u, v, size, wide, w, vu, vv, row, mid, right);
 }
+
+// V2, one even row of both chroma planes: its odd columns alone, since the main view has the even ones. It needs no chroma row of the view.
+pub fn v2_even_row(
+    u: &mut [u8],
+    v: &mut [u8],
+    size: Size,
+    wide: usize,
+    w: View,
+    vy: &[u8],
+    row: usize,
+    left: usize,
+    right: usize,
+)
+    requires { ⌜ row % 2 ≡ 0 ⌝ }
+    requires { ⌜ AreaFits size (length (now u)) (row + 1) left right ⌝ }
+    requires { ⌜ AreaFits size (length (now v)) (row + 1) left right ⌝ }
+    requires { ⌜ PlaneFits (lumaOf w) (length (now vy)) ⌝ }
+    ensures u { λ _. ⌜ ((vu vv : List ℕ) → now (u .exit) ≡ painted (strideOf size) (rowsOf size)
+        (auxiliaryRow (V2 wide) w row left right) (auxiliarySource (V2 wide) CU w (now (vy .entry)) vu vv) (now (u .entry))) ⌝ }
+    ensures v { λ _. ⌜ ((vu vv : List ℕ) → now (v .exit) ≡ painted (strideOf size) (rowsOf size)
+        (auxiliaryRow (V2 wide) w row left right) (auxiliarySource (V2 wide) CV w (now (vy .entry)) vu vv) (now (v .entry))) ⌝ }
+{
+    v2_odds(u, v, size, wide, w, vy, row, left, right);
+}

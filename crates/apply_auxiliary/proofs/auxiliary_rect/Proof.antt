@@ -1,7 +1,8 @@
 -- `apply_auxiliary::auxiliary_rect` meets its contract: the rule is what the widened area takes, and an area with no column takes nothing.
 -- Assumes nothing.
 use borrow.Author.Needs.{needs}
-use Prim.Native.Nat.{ℕ, _*_, _<_, _≤_}
+use Prim.Native.Nat.{ℕ, _*_, _%_, _<_, _≤_}
+use native.Mathlib.Omega.{arith}
 use mathlib.Core.Path.{_≡_, sym, ap, _∙_, subst}
 use mathlib.Core.List.{List}
 use denote.Ref.{now}
@@ -51,11 +52,16 @@ returns c =
     let none = subst (λ (x : Area). x .right ≤ x .left) (found (c .before .before)) (c .if1 .taken) in
     (area-none _ _ _ _ _ _ _ none, area-none _ _ _ _ _ _ _ none)
 
+-- its first row is even, and so is the one below its last
+even-rows : (f : tie.After-chroma-block-area) → let x = f .chroma-block-area .result in (x .top % 2 ≡ 0) × (x .bottom % 2 ≡ 0)
+even-rows f = rw (found f) (omega arith, omega arith)
+
 auxiliary-rows-requires : tie.Need-auxiliary-rows-requires
 auxiliary-rows-requires c κs =
     let e = c .before .before in
-    let p = entry (e .before .before) .pre in
-    (inside e _ (p .0), (inside e _ (p .1 .0), p .1 .1))
+    let f = e .before .before in
+    let p = entry f .pre in
+    (inside e _ (p .0), (inside e _ (p .1 .0), (even-rows f, p .1 .1)))
 
 same-length : tie.Need-same-length
 same-length c = search needs
