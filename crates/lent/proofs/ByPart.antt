@@ -64,12 +64,16 @@ part-within xs a e u {ys} ordered fits is =
 
 -- ---- what is written so far
 
-pub below-or-within : (a e k : ℕ) → a ≤ e → (ltb k a || within a e k) ≡ ltb k e
-below-or-within a e k ordered =
-    same-test (ltb k a || within a e k) (ltb k e)
-    (λ t. lt-ltb k e (⊎-elim (λ l. omega (arith, ltb-true k a l)) (λ w. within-facts a e k w .1) (either (ltb k a) (within a e k) t)))
+-- the first n places, and those from a on, which lie in them or next to them
+pub below-or-over : (n a e k : ℕ) → a ≤ n → n ≤ e → (ltb k n || within a e k) ≡ ltb k e
+below-or-over n a e k near ordered =
+    same-test (ltb k n || within a e k) (ltb k e)
+    (λ t. lt-ltb k e (⊎-elim (λ l. omega (arith, ltb-true k n l)) (λ w. within-facts a e k w .1) (either (ltb k n) (within a e k) t)))
     (λ t. let lt = ltb-true k e t in
-    ⊎-elim (λ l. or-left (ltb k a) (within a e k) (lt-ltb k a l)) (λ g. or-right (ltb k a) (within a e k) (within-holds a e k g lt)) (split k a))
+    ⊎-elim (λ l. or-left (ltb k n) (within a e k) (lt-ltb k n l)) (λ g. or-right (ltb k n) (within a e k) (within-holds a e k (omega arith) lt)) (split k n))
+
+pub below-or-within : (a e k : ℕ) → a ≤ e → (ltb k a || within a e k) ≡ ltb k e
+below-or-within a e k ordered = below-or-over a a e k (omega arith) ordered
 
 module _ (s : ℕ → ℕ) (xs : List ℕ) where
   -- the places that are still to come are as they were
@@ -84,13 +88,13 @@ module _ (s : ℕ → ℕ) (xs : List ℕ) where
       let more : 2 * i + 1 + 1 ≡ 2 * (i + 1) = omega arith in
       rw (back, ← more) (so-far-more s xs (2 * i + 1) (so-far-more s xs (2 * i) f (omega arith) e) (omega arith) e′)
 
-  -- the places from a to below e more
-  pub so-far-within : {was is : List ℕ} (a e : ℕ) (u : ℕ → ℕ) → a ≤ e → SoFar s xs was a → is ≡ paint (within a e) u was
+  -- the places from a to below e more, of which some may be written already
+  pub so-far-over : {was is : List ℕ} (n a e : ℕ) (u : ℕ → ℕ) → a ≤ n → n ≤ e → SoFar s xs was n → is ≡ paint (within a e) u was
       → ((k : ℕ) → a ≤ k → k < e → u k ≡ s k)
       → SoFar s xs is e
-  so-far-within a e u ordered f back from = (
+  so-far-over n a e u near ordered f back from = (
     ap length back ∙ length-paint _ _ _ ∙ f .0,
-    back ∙ ap (paint (within a e) u) (f .1) ∙ paint-paint (λ k. ltb k a) (within a e) s u xs ∙ paint-ext _ (λ k. ltb k e) _ s xs (λ k h. below-or-within a e k ordered) (λ k h t. source k),
+    back ∙ ap (paint (within a e) u) (f .1) ∙ paint-paint (λ k. ltb k n) (within a e) s u xs ∙ paint-ext _ (λ k. ltb k e) _ s xs (λ k h. below-or-over n a e k near ordered) (λ k h t. source k),
   )
     where
       source : (k : ℕ) → cond (within a e k) (u k) (s k) ≡ s k
@@ -100,11 +104,22 @@ module _ (s : ℕ → ℕ) (xs : List ℕ) where
           by true g = g refl
           by false g = refl
 
+  pub so-far-within : {was is : List ℕ} (a e : ℕ) (u : ℕ → ℕ) → a ≤ e → SoFar s xs was a → is ≡ paint (within a e) u was
+      → ((k : ℕ) → a ≤ k → k < e → u k ≡ s k)
+      → SoFar s xs is e
+  so-far-within a e u ordered f back from = so-far-over a a e u (omega arith) ordered f back from
+
   -- the same of a part that was lent, written whole and came back
+  pub so-far-part-over : {was ys : List ℕ} (n a e : ℕ) (u : ℕ → ℕ) → a ≤ n → n ≤ e → e ≤ length xs → SoFar s xs was n
+      → ys ≡ paint every u (take (e - a) (drop a was))
+      → ((j : ℕ) → a + j < e → u j ≡ s (a + j))
+      → SoFar s xs (take a was ++ (ys ++ drop (e - a) (drop a was))) e
+  so-far-part-over {was} n a e u near ordered fits f is from =
+      so-far-over n a e (λ k. u (k - a)) near ordered f (part-within was a e u (omega arith) (omega (arith, f .0)) is)
+      (λ k ge lt. let k-is : a + (k - a) ≡ k = omega arith in from (k - a) (omega arith) ∙ ap s k-is)
+
   pub so-far-part : {was ys : List ℕ} (a e : ℕ) (u : ℕ → ℕ) → a ≤ e → e ≤ length xs → SoFar s xs was a
       → ys ≡ paint every u (take (e - a) (drop a was))
       → ((j : ℕ) → a + j < e → u j ≡ s (a + j))
       → SoFar s xs (take a was ++ (ys ++ drop (e - a) (drop a was))) e
-  so-far-part {was} a e u ordered fits f is from =
-      so-far-within a e (λ k. u (k - a)) ordered f (part-within was a e u ordered (omega (arith, f .0)) is)
-      (λ k ge lt. let k-is : a + (k - a) ≡ k = omega arith in from (k - a) (omega arith) ∙ ap s k-is)
+  so-far-part a e u ordered fits f is from = so-far-part-over a a e u (omega arith) ordered fits f is from

@@ -8,16 +8,20 @@ use lib.Dec.{ltb}
 use lib.ListN.{length, getD, take, drop, length-append, length-drop}
 use lib.Seq.{take-at, take-add, take-take, take-all, length-take-le}
 use borrow.Author.Tests.{lt-ltb}
-use Rattle.lent.specs.Paint.{paint}
+use Rattle.lent.specs.Paint.{paint, every}
 use Rattle.lent.proofs.Bools.{cond-true}
-use Rattle.lent.proofs.Paint.{getD-paint, paint-all}
+use Rattle.lent.proofs.Paint.{getD-paint, paint-ext, paint-over}
 use Rattle.lent.proofs.Parts.{part-length}
+
+-- the first n places are written in t, and copied from there into xs: where n is all of xs, it is written as t was
+pub by-array : (xs t : List ℕ) (f : ℕ → ℕ) (n : ℕ) → length xs ≡ n → n ≤ length t → paint (λ k. ltb k n) (λ k. getD (paint (λ k. ltb k n) f t) k 0) xs ≡ paint every f xs
+by-array xs t f n ex room =
+    paint-ext _ every _ f xs (λ k h. lt-ltb k n (omega arith))
+    (λ k h e. getD-paint (λ k. ltb k n) f t k (omega arith) ∙ cond-true (ltb k n) (f k) (getD t k 0) (lt-ltb k n (omega arith)))
 
 -- the first n bytes of ys, put into t, and those of t into xs: where n is all, xs becomes ys
 pub through : (xs ys t : List ℕ) (n : ℕ) → length xs ≡ n → length ys ≡ n → n ≤ length t → paint (λ k. ltb k n) (λ k. getD (paint (λ k. ltb k n) (λ k. getD ys k 0) t) k 0) xs ≡ ys
-through xs ys t n ex ey room =
-    paint-all _ _ xs ys (ey ∙ sym ex) (λ k h. lt-ltb k n (omega arith))
-    (λ k h. getD-paint (λ k. ltb k n) (λ k. getD ys k 0) t k (omega arith) ∙ cond-true (ltb k n) (getD ys k 0) (getD t k 0) (lt-ltb k n (omega arith)))
+through xs ys t n ex ey room = by-array xs t (λ k. getD ys k 0) n ex room ∙ sym (paint-over xs ys (ey ∙ sym ex))
 
 -- ys is as long as xs, and its first n bytes are those of xs
 abbrev pub Front : List ℕ → List ℕ → ℕ → Type 0

@@ -77,23 +77,61 @@ pub fn copy(dst: &mut [u8], src: &[u8])
     copy_16(&mut dst[last..n], &src[last..n]);
 }
 
-// Each byte of `from` goes to two places of dst. One word a pair, since an index i / 2 keeps the compiler from vector code: 257 is
-// 256 + 1, so that both bytes of the word are the sample. An odd last one apart.
+// The first `count` pairs of dst become as many bytes of `from`, each at two places. One word a pair, since an index i / 2 keeps the compiler
+// from vector code: 257 is 256 + 1, so that both bytes of the word are the sample.
+fn pairs(dst: &mut [u8], from: &[u8], count: usize)
+    requires { ⌜ 2 * count ≤ length (now dst) ⌝ }
+    requires { ⌜ count ≤ length (now from) ⌝ }
+    ensures { λ _. ⌜ now (dst .exit) ≡ paint (λ k. ltb k (2 * count)) (λ k. getD (now (from .entry)) (k / 2) 0) (now (dst .entry)) ⌝ }
+{
+    let mut i = 0;
+    while i < count {
+        words::put_two(dst, 2 * i, 257 * (from[i] as u16));
+        i += 1;
+    }
+}
+
+// The 16 places of dst become the 8 bytes of `from`, each at two places: one load and one store, as in `copy_16`.
+fn spread_16(dst: &mut [u8], from: &[u8])
+    requires { ⌜ (length (now dst) ≡ 16) × (length (now from) ≡ 8) ⌝ }
+    ensures { λ _. ⌜ now (dst .exit) ≡ paint every (λ k. getD (now (from .entry)) (k / 2) 0) (now (dst .entry)) ⌝ }
+{
+    let mut both = [0u8; 16];
+    pairs(&mut both, from, 8);
+    copy_front(dst, &both, 16);
+}
+
+// The first n pairs of dst, as by `pairs`. 16 places a turn; the last turn ends at the end, as in `copy`.
+fn many_pairs(dst: &mut [u8], from: &[u8], n: usize)
+    requires { ⌜ 2 * n ≤ length (now dst) ⌝ }
+    requires { ⌜ n ≤ length (now from) ⌝ }
+    ensures { λ _. ⌜ now (dst .exit) ≡ paint (λ k. ltb k (2 * n)) (λ k. getD (now (from .entry)) (k / 2) 0) (now (dst .entry)) ⌝ }
+{
+    if n < 8 {
+        pairs(dst, from, n);
+        return;
+    }
+    let most = n - 8;
+    let mut i = 0;
+    while i < most {
+        spread_16(&mut dst[2 * i..2 * i + 16], &from[i..i + 8]);
+        i += 8;
+    }
+    spread_16(&mut dst[2 * most..2 * n], &from[most..n]);
+}
+
+// Each byte of `from` goes to two places of dst. An odd last place apart.
 pub fn spread(dst: &mut [u8], from: &[u8])
     requires { ⌜ length (now dst) ≤ 2 * length (now from) ⌝ }
     ensures { λ _. ⌜ now (dst .exit) ≡ paint every (λ k. getD (now (from .entry)) (k / 2) 0) (now (dst .entry)) ⌝ }
 {
-    let pairs = dst.len() / 2;
-    let mut i = 0;
-    while i < pairs {
-        words::put_two(dst, 2 * i, 257 * (from[i] as u16));
-        i += 1;
-    }
-    let end = 2 * pairs;
+    let n = dst.len() / 2;
+    many_pairs(dst, from, n);
+    let end = 2 * n;
     if end == dst.len() {
         return;
     }
-    dst[end] = from[pairs];
+    dst[end] = from[n];
 }
 
 // Every byte of dst becomes `value`.

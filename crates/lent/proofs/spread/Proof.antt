@@ -1,113 +1,48 @@
--- `lent::spread` meets its contract. The invariant: the first 2 i bytes are painted, two of each byte of `from`: both bytes of 257 * b are b.
--- An odd last byte is one store more.
+-- `lent::spread` meets its contract: the pairs, and an odd last place, which is one store more.
 -- Assumes nothing.
-use Prim.Native.Nat.{ℕ, _+_, _-_, _*_, _/_, _%_, _≤_, _<_}
+use borrow.Author.Needs.{needs}
+use Prim.Native.Nat.{ℕ, _+_, _*_, _/_}
 use native.Mathlib.Omega.{arith}
 use mathlib.Core.Path.{_≡_, refl, ap, _∙_}
-use lib.Dec.{ltb}
-use lib.ListN.{length, getD, set, length-set}
-use borrow.Author.Tests.{le-ltb, lt-ltb}
-use Rattle.lent.specs.Paint.{paint}
-use Rattle.lent.proofs.Paint.{paint-none, paint-next, paint-pair, paint-ext}
+use lib.ListN.{length, getD}
+use borrow.Author.Tests.{lt-ltb}
+use Rattle.lent.proofs.Paint.{paint-next, paint-ext}
 use Rattle.lent.proofs.spread.Statement.{statement}
 use Rattle.lent.proofs.spread.Tie as tie
 
-abbrev Inv-loop : tie.InvT-loop
-Inv-loop dst₀ from pairs i₀ dst i =
-    (pairs ≡ length dst₀ / 2) × (i ≤ pairs) × (length dst ≡ length dst₀) × (dst ≡ paint (λ k. ltb k (2 * i)) (λ k. getD from (k / 2) 0) dst₀)
+many-pairs-requires : tie.Need-many-pairs-requires
+many-pairs-requires c κs = search needs
 
-abbrev μ-loop : tie.MeasureT-loop
-μ-loop dst₀ from pairs i₀ dst i = pairs - i
+mul-end : tie.Need-mul-end
+mul-end c = search needs
 
-loop-holds : tie.Need-loop-holds Inv-loop μ-loop
-loop-holds c = (refl, omega arith, refl, paint-none _ _ _ (λ k h. le-ltb k (2 * 0) (omega arith)))
+same-length : tie.Need-same-length
+same-length c = search needs
 
-mul-put-two : tie.Need-mul-put-two Inv-loop μ-loop
-mul-put-two c = omega arith
-
-shared-slice-read-put-two : tie.Need-shared-slice-read-put-two Inv-loop μ-loop
-shared-slice-read-put-two c = omega arith
-
-cast-put-two : tie.Need-cast-put-two Inv-loop μ-loop
-cast-put-two c = omega (arith, c .shared-slice-known2 .given (c .before .before .before .loop .i))
-
-mul-put-two-2 : tie.Need-mul-put-two-2 Inv-loop μ-loop
-mul-put-two-2 c = omega (arith, c .shared-slice-known2 .given (c .before .before .before .loop .i))
-
-put-two-requires : tie.Need-put-two-requires Inv-loop μ-loop
-put-two-requires c κs = omega arith
-
-add-i : tie.Need-add-i Inv-loop μ-loop
-add-i c = omega arith
-
-loop-less : tie.Need-loop-less Inv-loop μ-loop
-loop-less c = omega arith
-
-loop-again : tie.Need-loop-again Inv-loop μ-loop
-loop-again c =
-    let call = c .before .before in
-    let l = call .before .before .before .before in
-    let a = l .before .before .before .args in
-    let b : ℕ = getD (a .from .now) (l .loop .i) 0 in
-    let small : b < 256 = omega (arith, call .before .shared-slice-known2 .given (l .loop .i)) in
-    let low : 257 * b % 256 ≡ b = omega arith in
-    let high : 257 * b / 256 ≡ b = omega arith in
-    let stored = call .put-two .ensures ∙ (λ t. set (set (l .loop .inv .3 t) (2 * l .loop .i) (low t)) (2 * l .loop .i + 1) (high t)) in (
-      refl,
-      omega arith,
-      omega (arith, simp length-set at (ap length (call .put-two .ensures))),
-      stored ∙ paint-pair (λ k. getD (a .from .now) k 0) _ (l .loop .i) b (omega arith) refl,
-    )
-
-mul-end : tie.Need-mul-end Inv-loop μ-loop
-mul-end c = omega arith
-
-same-length : tie.Need-same-length Inv-loop μ-loop
-same-length c = omega arith
-
-returns : tie.Need-returns Inv-loop μ-loop
+returns : tie.Need-returns
 returns c =
-    let l = c .before .before in
-    l .loop .inv .3 ∙ paint-ext _ _ _ _ _ (λ k h. lt-ltb k (2 * l .loop .i) (omega arith)) (λ k h e. refl)
+    let call = c .before .before .before in
+    call .many-pairs .ensures ∙ paint-ext _ _ _ _ _ (λ k h. lt-ltb k (2 * (length (call .before .before .before .before .args .dst .now) / 2)) (omega arith)) (λ k h e. refl)
 
-shared-slice-read-dst : tie.Need-shared-slice-read-dst Inv-loop μ-loop
-shared-slice-read-dst c = omega arith
+shared-slice-read-dst : tie.Need-shared-slice-read-dst
+shared-slice-read-dst c = search needs
 
-slice-write-dst : tie.Need-slice-write-dst Inv-loop μ-loop
-slice-write-dst c = omega arith
+slice-write-dst : tie.Need-slice-write-dst
+slice-write-dst c = search needs
 
-same-length-2 : tie.Need-same-length-2 Inv-loop μ-loop
-same-length-2 c = simp length-set (omega arith)
+same-length-2 : tie.Need-same-length-2
+same-length-2 c = search needs
 
-returns-2 : tie.Need-returns-2 Inv-loop μ-loop
+returns-2 : tie.Need-returns-2
 returns-2 c =
-    let l = c .before .before .before in
-    let a = l .before .before .before .args in
+    let call = c .before .before .before .before in
+    let a = call .before .before .before .before .args in
     let p : ℕ = length (a .dst .now) / 2 in
-    let all : l .loop .i ≡ p = omega arith in
     let half : p ≡ 2 * p / 2 = omega arith in
-    rw (l .loop .inv .3, all) (paint-next _ _ (2 * p) _ (omega arith) (ap (λ (k : ℕ). getD (a .from .now) k 0) half))
+    rw (call .many-pairs .ensures) (paint-next _ _ (2 * p) _ (omega arith) (ap (λ (k : ℕ). getD (a .from .now) k 0) half))
     ∙ paint-ext _ _ _ _ _ (λ k h. lt-ltb k (2 * p + 1) (omega arith)) (λ k h e. refl)
 
 pub spread-spec : {M : Type 1} → statement M
 spread-spec =
     tie.close
-    (tie.spec
-    Inv-loop
-    μ-loop
-    loop-holds
-    mul-put-two
-    shared-slice-read-put-two
-    cast-put-two
-    mul-put-two-2
-    put-two-requires
-    add-i
-    loop-less
-    loop-again
-    mul-end
-    same-length
-    returns
-    shared-slice-read-dst
-    slice-write-dst
-    same-length-2
-    returns-2)
+    (tie.spec many-pairs-requires mul-end same-length returns shared-slice-read-dst slice-write-dst same-length-2 returns-2)
