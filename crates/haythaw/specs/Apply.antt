@@ -1,8 +1,8 @@
 -- The apply calls answer a number alone over the boundary: their count is always 0, so nothing is lost (`number-alone`).
 --
 --   HaythawApplyMainViewOutcome z w rects vy vu vv y u v      how `haythaw_apply_main_view` ends: the number, and the picture's planes
---   HaythawApplyAuxiliaryOutcome t z w rects vy vu vv y u v   the same of `haythaw_apply_auxiliary_v1`, `_v2` and `_v2_32`, t being the
---                                                             layout, V2's with the W of its rule
+--   HaythawApplyAuxiliaryOutcome t z w rects vy vu vv y u v   the same of `haythaw_apply_auxiliary_v1`, `_v2`, `_v2_32` and `_v2_exact`,
+--                                                             t being the layout, V2's with the W of its rule
 use Prim.Native.Nat.{ℕ}
 use mathlib.Core.List.{List}
 use Rattle.lent.specs.Outcome.{Outcome}

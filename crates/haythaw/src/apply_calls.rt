@@ -1,6 +1,6 @@
 // Views go into a picture, within the rectangles of a list.
 ghost use mathlib.Core.List.{[], _∷_};
-ghost use Rattle.layout.specs.Maps.{layoutOf};
+ghost use Rattle.layout.specs.Maps.{layoutOf, exactLayoutOf};
 ghost use Rattle.layout.specs.declared.Layout.the-variants.{V1};
 ghost use Rattle.layout.specs.declared.Way.the-variants.{AsV2};
 ghost use Rattle.layout.specs.declared.WidthRule.the-variants.{To16, To32};
@@ -163,6 +163,50 @@ pub extern "C" fn haythaw_apply_auxiliary_v2_32(
     };
     let size = Size { width, height };
     let layout = layout::layout_of(Way::AsV2(WidthRule::To32), width, view_width);
+    apply_auxiliary::apply_auxiliary_view(
+        layout,
+        size,
+        y,
+        u,
+        v,
+        rects,
+        w,
+        view_y,
+        view_u,
+        view_v,
+    ).number
+}
+
+// The auxiliary view of layout V2 by the rule Exact, W being the picture's width as it is; all else as above.
+#[no_mangle]
+pub extern "C" fn haythaw_apply_auxiliary_v2_exact(
+    width: u16,
+    height: u16,
+    y: &mut [u8],
+    u: &mut [u8],
+    v: &mut [u8],
+    rects: &[u16],
+    view_width: u16,
+    view_height: u16,
+    luma_stride: usize,
+    chroma_stride: usize,
+    view_y: &[u8],
+    view_u: &[u8],
+    view_v: &[u8],
+) -> u32
+    ensures { λ r. ⌜ HaythawApplyAuxiliaryOutcome
+        (exactLayoutOf width) (sizeOf width height) (sizesOf «view_width» «view_height» «luma_stride» «chroma_stride»)
+        (now (rects .entry)) (now («view_y» .entry)) (now («view_u» .entry)) (now («view_v» .entry))
+        (now (y .entry)) (now (u .entry)) (now (v .entry)) r (now (y .exit) ∷ now (u .exit) ∷ now (v .exit) ∷ []) ⌝ }
+{
+    let w = View {
+        width: view_width,
+        height: view_height,
+        luma_stride,
+        chroma_stride,
+    };
+    let size = Size { width, height };
+    let layout = layout::exact_layout(width);
     apply_auxiliary::apply_auxiliary_view(
         layout,
         size,

@@ -20,7 +20,7 @@ use Rattle.layout.proofs.Exists.{parity, odd-test, even-test, fourth-te
 place-path : {k m : Chroma} {r s c d : ℕ} → k ≡ m → r ≡ s → c ≡ d → place k r c ≡ place m s d
 place-path p q t = λ i. place (p i) (q i) (t i)
 
-spot-path : {k : Part} {r s c d : ℕ} → r ≡ s → c ≡ d → spot k r c ≡ spot k s d
+pub spot-path : {k : Part} {r s c d : ℕ} → r ≡ s → c ≡ d → spot k r c ≡ spot k s d
 spot-path {k} p q = λ i. spot k (p i) (q i)
 
 -- ---- V1: of 16 luma rows, 8 for the odd rows of U and 8 for those of V

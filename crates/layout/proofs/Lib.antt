@@ -2,5 +2,6 @@
 pub mod Halves
 pub mod Exists
 pub mod Fed
+pub mod Exact
 pub mod Spots
 pub mod Pairs

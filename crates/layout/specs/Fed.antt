@@ -5,9 +5,11 @@
 --   BlockFed m W H k i j   of the chroma plane k, the 2x2 block at rows 2i, 2i+1 and columns 2j, 2j+1: three samples live in the
 --                     auxiliary view, at three spots, and no spot of it holds the even-even one, which lives in the main view
 --   FedOnce m W H     that of every block, and of every spot that exactly one place lives there
+--   Clash m W H       two places of a picture W wide, in the columns of its whole blocks, live at one spot: no view could hold both
 use Prim.Native.Nat.{ℕ, _+_, _*_, _<_}
 use mathlib.Core.Path.{_≡_}
 use mathlib.Core.Bool.{true}
+use Rattle.lent.specs.Sizes.{roundUp}
 use Rattle.layout.specs.Maps.{Place, Spot, place, toMain, fromMain, Maps}
 use Rattle.layout.specs.Exists.{present, carried}
 use Rattle.layout.specs.declared.Chroma.{Chroma}
@@ -43,3 +45,11 @@ pub record FedOnce (m : Maps) (W H : ℕ) : Type 0 where
   pub blocks : (k : Chroma) (i j : ℕ) → 2 * i + 1 < H → 2 * j + 1 < W → BlockFed m W H k i j
   pub holds : (s : Spot) → present W H s ≡ true → (l : Place) × (carried W H l ≡ true) × (m .spot l ≡ s)
   pub exactly : (l l′ : Place) → carried W H l ≡ true → carried W H l′ ≡ true → m .spot l ≡ m .spot l′ → l ≡ l′
+
+pub record Clash (m : Maps) (W H : ℕ) : Type 0 where
+  pub one : Place
+  pub other : Place
+  pub one-carried : carried (roundUp 2 W) H one ≡ true
+  pub other-carried : carried (roundUp 2 W) H other ≡ true
+  pub together : m .spot one ≡ m .spot other
+  pub apart : one ≡ other → ⊥

@@ -1,5 +1,5 @@
 -- The two maps of each layout between the chroma of the picture and the auxiliary view: MS-RDPEGFX 3.3.8.3.2 (V1) and 3.3.8.3.3 (V2),
--- as R63, R65 to R69, R72 and R82 give them. All halves and quarters are floor.
+-- as R63, R65 to R69, R72, R73 and R82 give them. All halves and quarters are floor.
 --
 --   Chroma             which chroma plane of the picture, CU or CV
 --   Layout             V1, or V2 W, V2 with the width W that is halved and quartered
@@ -17,6 +17,7 @@
 --   Maps               the two of a layout; `maps t` those of the layout t
 --   wideOf rule pw vw  W by a rule, for a picture of width pw and a view of width vw
 --   layoutOf t pw vw   the layout of such a view that was sent this way
+--   exactLayoutOf pw   that of a server which does not round at all, for apply alone: no picture is sent this way
 --   viewWideOf t stride        how wide the views of a split are, in the layout t
 use Prim.Native.Nat.{ℕ, _+_, _*_, _-_, _/_, _%_}
 use mathlib.Core.Bool.{cond}
@@ -121,6 +122,10 @@ wideOf To32 pw vw = roundUp 32 pw
 abbrev pub layoutOf : Way → ℕ → ℕ → Layout
 layoutOf AsV1 pw vw = V1
 layoutOf (AsV2 rule) pw vw = V2 (wideOf rule pw vw)
+
+-- R73: "W is the picture's own width, not rounded"
+abbrev pub exactLayoutOf : ℕ → Layout
+exactLayoutOf pw = V2 pw
 
 -- how wide the views of a split are: W, and for V1 the stride
 abbrev pub viewWideOf : Layout → ℕ → ℕ

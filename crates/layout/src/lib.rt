@@ -6,7 +6,7 @@
 ghost use mathlib.Core.Path.{_≡_};
 ghost use Prim.Native.Nat.{_+_, _*_, _/_, _%_, _<_};
 ghost use Rattle.lent.specs.Sizes.{roundUp};
-ghost use Rattle.layout.specs.Maps.{upperOf, wideOf, layoutOf};
+ghost use Rattle.layout.specs.Maps.{upperOf, wideOf, layoutOf, exactLayoutOf};
 ghost use Rattle.layout.specs.Exists.{v2OddsBelowOf, v2EvensBelowOf};
 
 // Which chroma plane of the picture.
@@ -65,6 +65,14 @@ pub fn layout_of(way: Way, pw: u16, vw: u16) -> Layout
         Way::AsV1 => Layout::V1,
         Way::AsV2(rule) => Layout::V2(v2_width(rule, pw, vw)),
     }
+}
+
+// The layout of a view from a server that does not round: W is the picture's own width. For apply alone; where it is no multiple of 4, two
+// samples of chroma share a spot of the view (proofs/Exact.antt).
+pub fn exact_layout(pw: u16) -> Layout
+    ensures { λ r. ⌜ r ≡ exactLayoutOf pw ⌝ }
+{
+    Layout::V2(pw as usize)
 }
 
 // V2: both samples of an odd column exist exactly below this column.
