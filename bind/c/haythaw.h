@@ -25,9 +25,10 @@
  *             height) rounded up to even: the 2x2 blocks that it touches. An empty rectangle may widen to something:
  *             (5, 0, 5, 4) takes chroma columns 4 and 5.
  *   W         the width by which the auxiliary view of AVC444v2 is laid out. The calls _v2 round to 16 (the 16 rule), the calls
- *             _v2_32 round the picture's width up to 32 (the 32 rule): a width of 48 is 48 by the one, and 64 by the other. No
- *             stream says which; it is the server's own. Chroma that was laid out by one W and is read by another is wrong. By the
- *             16 rule W follows from the view's width, so hand over a view as wide as it was coded, neither cropped nor padded.
+ *             _v2_32 round the picture's width up to 32 (the 32 rule), and haythaw_apply_auxiliary_v2_exact does not round it (the
+ *             rule Exact, FreeRDP's server): a width of 66 is 80 by the first, 96 by the second and 66 by the third. No stream
+ *             says which; it is the server's own. Chroma that was laid out by one W and is read by another is wrong. By the 16
+ *             rule W follows from the view's width, so hand over a view as wide as it was coded, neither cropped nor padded.
  *   RGBA      four bytes a pixel, row after row with nothing between.
  *   payload   (AVC444) what the wire carries, RFX_AVC444_BITMAP_STREAM of MS-RDPEGFX 2.2.4.5; V2 has the same frame. First a
  *             number of 32 bits: its low 30 bits are the size, its top two bits the kind (0 luma and chroma, 1 luma alone,
@@ -188,7 +189,7 @@ haythaw_pixels haythaw_to_rgba(uint16_t width, uint16_t height, const uint8_t *y
 
 /* ---- Views into a picture, within a list of rectangles ----
  *
- * All four answer 0, 1, 7, 3 or 4, in this order of refusals, and take what a view has: a sample that it lacks leaves the
+ * All five answer 0, 1, 7, 3 or 4, in this order of refusals, and take what a view has: a sample that it lacks leaves the
  * picture's as it was, and U and V of a place are taken together or not at all. The order of the list has no effect. An empty
  * list changes nothing. */
 
@@ -226,6 +227,16 @@ uint32_t haythaw_apply_auxiliary_v2_32(uint16_t width, uint16_t height, uint8_t 
                                        uint16_t view_width, uint16_t view_height, size_t luma_stride, size_t chroma_stride,
                                        const uint8_t *view_y, size_t view_y_count, const uint8_t *view_u, size_t view_u_count,
                                        const uint8_t *view_v, size_t view_v_count);
+
+/* The same by the rule Exact, for servers that do not round, as FreeRDP's: W is the picture's width, and view_width says only which
+ * samples the view has. Halves and quarters of W are rounded down: at a width of 66, V stands 33 columns after U in luma and 16
+ * after it in chroma. Where the width is no multiple of 4, two samples share a place of the view, whichever of them the server
+ * wrote there; so there is no split by this rule. Where the width is a multiple of 16 it is what the 16 rule is of a view that wide. */
+uint32_t haythaw_apply_auxiliary_v2_exact(uint16_t width, uint16_t height, uint8_t *y, size_t y_count, uint8_t *u, size_t u_count,
+                                          uint8_t *v, size_t v_count, const uint16_t *rects, size_t rects_count,
+                                          uint16_t view_width, uint16_t view_height, size_t luma_stride, size_t chroma_stride,
+                                          const uint8_t *view_y, size_t view_y_count, const uint8_t *view_u,
+                                          size_t view_u_count, const uint8_t *view_v, size_t view_v_count);
 
 /* ---- A picture into its two views ----
  *

@@ -34,6 +34,7 @@ ALONE(do_main, haythaw_apply_main_view(PICTURE, LENT(RECTS), A_VIEW))
 ALONE(do_aux_v1, haythaw_apply_auxiliary_v1(PICTURE, LENT(RECTS), A_VIEW))
 ALONE(do_aux_v2, haythaw_apply_auxiliary_v2(PICTURE, LENT(RECTS), A_VIEW))
 ALONE(do_aux_v2_32, haythaw_apply_auxiliary_v2_32(PICTURE, LENT(RECTS), A_VIEW))
+ALONE(do_aux_v2_exact, haythaw_apply_auxiliary_v2_exact(PICTURE, LENT(RECTS), A_VIEW))
 ALONE(do_split_v1, haythaw_split_v1(PICTURE, BOTH_VIEWS))
 ALONE(do_split_v2, haythaw_split_v2(PICTURE, BOTH_VIEWS))
 ALONE(do_split_v2_32, haythaw_split_v2_32(PICTURE, BOTH_VIEWS))
@@ -55,8 +56,8 @@ ALONE(do_write, haythaw_avc444_write(a->kind, BOTH_STREAMS, LENT(OUT)))
 ALONE(do_allocation_size, haythaw_allocation_size(a->width, a->height))
 
 static void (*const alone[CALLS + 1])(const Args *) = {
-    do_new, do_from_rgba, do_from_rgba_rust, do_to_rgba, do_main, do_aux_v1, do_aux_v2, do_aux_v2_32, do_split_v1, do_split_v2,
-    do_split_v2_32, do_view, do_luma_row, do_u_row, do_v_row, do_view_to_rgba, do_is_avc, do_annex_b, do_read, do_luma_rectangle,
+    do_new, do_from_rgba, do_from_rgba_rust, do_to_rgba, do_main, do_aux_v1, do_aux_v2, do_aux_v2_32, do_aux_v2_exact, do_split_v1,
+    do_split_v2, do_split_v2_32, do_view, do_luma_row, do_u_row, do_v_row, do_view_to_rgba, do_is_avc, do_annex_b, do_read, do_luma_rectangle,
     do_chroma_rectangle, do_luma_pair, do_chroma_pair, do_luma_rects, do_chroma_rects, do_write, do_allocation_size};
 
 static void on_its_own_stack(void)

@@ -6,13 +6,13 @@
 #include "../haythaw.h"
 
 enum call {
-    NEW, FROM_RGBA, FROM_RGBA_RUST, TO_RGBA, MAIN, AUX_V1, AUX_V2, AUX_V2_32, SPLIT_V1, SPLIT_V2, SPLIT_V2_32, VIEW, LUMA_ROW, U_ROW,
-    V_ROW, VIEW_TO_RGBA, IS_AVC, ANNEX_B, READ, LUMA_RECTANGLE, CHROMA_RECTANGLE, LUMA_PAIR, CHROMA_PAIR, LUMA_RECTS, CHROMA_RECTS,
+    NEW, FROM_RGBA, FROM_RGBA_RUST, TO_RGBA, MAIN, AUX_V1, AUX_V2, AUX_V2_32, AUX_V2_EXACT, SPLIT_V1, SPLIT_V2, SPLIT_V2_32, VIEW,
+    LUMA_ROW, U_ROW, V_ROW, VIEW_TO_RGBA, IS_AVC, ANNEX_B, READ, LUMA_RECTANGLE, CHROMA_RECTANGLE, LUMA_PAIR, CHROMA_PAIR, LUMA_RECTS, CHROMA_RECTS,
     WRITE, CALLS
 };
 static const char *const call_names[CALLS] = {
     "new", "from_rgba", "from_rgba_rust", "to_rgba", "apply_main_view", "apply_auxiliary_v1", "apply_auxiliary_v2",
-    "apply_auxiliary_v2_32", "split_v1", "split_v2", "split_v2_32", "view", "luma_row", "u_row", "v_row", "view_to_rgba",
+    "apply_auxiliary_v2_32", "apply_auxiliary_v2_exact", "split_v1", "split_v2", "split_v2_32", "view", "luma_row", "u_row", "v_row", "view_to_rgba",
     "is_avc_format", "avc_to_annex_b", "avc444_read", "avc444_luma_rectangle", "avc444_chroma_rectangle", "avc444_luma_pair",
     "avc444_chroma_pair", "avc444_luma_rects", "avc444_chroma_rects", "avc444_write"};
 
@@ -148,6 +148,7 @@ static Result run(enum call call, const Args *a)
     case AUX_V1: return of_number(haythaw_apply_auxiliary_v1(PICTURE, LENT(RECTS), A_VIEW));
     case AUX_V2: return of_number(haythaw_apply_auxiliary_v2(PICTURE, LENT(RECTS), A_VIEW));
     case AUX_V2_32: return of_number(haythaw_apply_auxiliary_v2_32(PICTURE, LENT(RECTS), A_VIEW));
+    case AUX_V2_EXACT: return of_number(haythaw_apply_auxiliary_v2_exact(PICTURE, LENT(RECTS), A_VIEW));
     case SPLIT_V1: return of_views(haythaw_split_v1(PICTURE, BOTH_VIEWS));
     case SPLIT_V2: return of_views(haythaw_split_v2(PICTURE, BOTH_VIEWS));
     case SPLIT_V2_32: return of_views(haythaw_split_v2_32(PICTURE, BOTH_VIEWS));

@@ -31,6 +31,7 @@ static const struct { size_t used; Need needs[9]; } needs[CALLS] = {
     [AUX_V1] = {7, {PLANES, {RECTS, 4, 7, 0}, THE_VIEW}},
     [AUX_V2] = {7, {PLANES, {RECTS, 4, 7, 0}, THE_VIEW}},
     [AUX_V2_32] = {7, {PLANES, {RECTS, 4, 7, 0}, THE_VIEW}},
+    [AUX_V2_EXACT] = {7, {PLANES, {RECTS, 4, 7, 0}, THE_VIEW}},
     [SPLIT_V1] = {9, {PLANES, THE_VIEWS}},
     [SPLIT_V2] = {9, {PLANES, THE_VIEWS}},
     [SPLIT_V2_32] = {9, {PLANES, THE_VIEWS}},

@@ -178,6 +178,16 @@ static void result_of_auxiliary_views(void)
           "apply_auxiliary_v2_32", "a number");
     check(u[0] == 0 && u[1] == 51 && u[16] == 53 && u[17] == 52 && u[18] == 0, "apply_auxiliary_v2_32", "U");
     check(v[0] == 0 && v[1] == 61 && v[16] == 63 && v[17] == 62 && v[18] == 0, "apply_auxiliary_v2_32", "V");
+    /* V2 by the rule Exact: a picture of 2 is 2 wide, so V stands a column after U in luma, and both stand in one place in chroma. */
+    const uint8_t own[4] = {71, 81, 72, 82}, own_u[1] = {73}, own_v[1] = {0};
+    check(haythaw_apply_auxiliary_v2_exact(2, 2, y, 256, u, 256, v, 256, rects, 3, 2, 2, 2, 1, own, 4, own_u, 1, own_v, 1) ==
+              HAYTHAW_LIST_UNEVEN,
+          "apply_auxiliary_v2_exact", "a refusal");
+    check(haythaw_apply_auxiliary_v2_exact(2, 2, y, 256, u, 256, v, 256, rects, 4, 2, 2, 2, 1, own, 4, own_u, 1, own_v, 1) ==
+              HAYTHAW_DONE,
+          "apply_auxiliary_v2_exact", "a number");
+    check(u[0] == 0 && u[1] == 71 && u[16] == 73 && u[17] == 72 && u[18] == 0, "apply_auxiliary_v2_exact", "U");
+    check(v[0] == 0 && v[1] == 81 && v[16] == 73 && v[17] == 82 && v[18] == 0, "apply_auxiliary_v2_exact", "V");
     check(y[0] == 0 && y[16] == 0, "the auxiliary views", "no Y");
 }
 

@@ -50,7 +50,7 @@ static uint32_t the_number(enum call call, const Args *a)
     case NEW: return plane_short(a) ? 1 : 0;
     case FROM_RGBA: case FROM_RGBA_RUST: return a->count[RGBA] < (size_t)4 * a->width * a->height ? 2 : plane_short(a) ? 1 : 0;
     case TO_RGBA: return plane_short(a) ? 1 : a->count[OUT] < clipped(a) ? 6 : 0;
-    case MAIN: case AUX_V1: case AUX_V2: case AUX_V2_32: return plane_short(a) ? 1 : a->count[RECTS] % 4 != 0 ? 7 : view_number(a);
+    case MAIN: case AUX_V1: case AUX_V2: case AUX_V2_32: case AUX_V2_EXACT: return plane_short(a) ? 1 : a->count[RECTS] % 4 != 0 ? 7 : view_number(a);
     case SPLIT_V1: case SPLIT_V2: case SPLIT_V2_32: return split_number(call, a);
     case VIEW_TO_RGBA:
         return view_number(a) != 0 ? view_number(a) : a->count[OUT] < (size_t)4 * a->view_width * a->view_height ? 6 : 0;
@@ -98,7 +98,7 @@ static void view_sizes(void)
     static const size_t strides[] = {0, 1, 3, 7, 65535, SIZE_MAX / 2 + 1, 6148914691236517206u, SIZE_MAX - 1, SIZE_MAX};
     enum { SIDES = sizeof sides / sizeof *sides, STRIDES = sizeof strides / sizeof *strides };
     static const uint16_t rects[8] = {0, 0, 65535, 65535, 3, 1, 5, 2};
-    static const enum call calls[] = {VIEW, LUMA_ROW, U_ROW, V_ROW, VIEW_TO_RGBA, MAIN, AUX_V1, AUX_V2, AUX_V2_32};
+    static const enum call calls[] = {VIEW, LUMA_ROW, U_ROW, V_ROW, VIEW_TO_RGBA, MAIN, AUX_V1, AUX_V2, AUX_V2_32, AUX_V2_EXACT};
     Args a = {0};
     picture(&a, 17, 3, 512);
     for (int s = VIEW_Y; s <= OUT; s++)
@@ -121,7 +121,7 @@ static void view_sizes(void)
 static void list_lengths(void)
 {
     for (size_t count = 0; count < 10; count++)
-        for (int call = MAIN; call <= AUX_V2_32; call++) {
+        for (int call = MAIN; call <= AUX_V2_EXACT; call++) {
             Args a = {0};
             picture(&a, 17, 3, 512);
             view(&a, 5, 3, 7, 4);
@@ -137,7 +137,7 @@ static void rectangles(void)
 {
     static const uint16_t edges[] = {0, 1, 2, 4, 5, 17, 65535};
     enum { EDGES = sizeof edges / sizeof *edges };
-    static const enum call calls[] = {MAIN, AUX_V1, AUX_V2, AUX_V2_32, TO_RGBA};
+    static const enum call calls[] = {MAIN, AUX_V1, AUX_V2, AUX_V2_32, AUX_V2_EXACT, TO_RGBA};
     Args a = {0};
     picture(&a, 17, 3, 512);
     view(&a, 5, 3, 7, 4);

@@ -1,4 +1,5 @@
-/* The 32 rule of AVC444v2: W is the picture's width rounded up to 32. Rows and numbers are worked by hand and written out. */
+/* The other rules of AVC444v2: W is the picture's width rounded up to 32, or, for apply alone, not rounded (the rule Exact). Rows and
+ * numbers are worked by hand and written out. */
 #ifndef WIDTH_H
 #define WIDTH_H
 
@@ -230,7 +231,7 @@ static void split_32_widest(void)
 static Args view_in_columns(uint16_t width, uint16_t view_width)
 {
     static const uint16_t whole[4] = {0, 0, 65535, 65535};
-    const size_t half = view_width / 2u;
+    const size_t half = (view_width + 1u) / 2u;
     Args a = {0};
     picture(&a, width, 16, up_to(width, 16) * 16);
     for (int s = Y; s <= V; s++)
@@ -252,18 +253,19 @@ static Args view_in_columns(uint16_t width, uint16_t view_width)
 
 /* Rows 0 and 1 of U and V after the call, and how many columns are taken of the rows after them. */
 typedef struct {
+    enum call call;
     uint16_t width, view_width;
     size_t stride, taken;
     uint8_t even_u[48], odd_u[48], even_v[48], odd_v[48];
-} Taken32;
+} Taken;
 
 #define SIXTEEN_200 200, 200, 200, 200, 200, 200, 200, 200, 200, 200, 200, 200, 200, 200, 200, 200
 #define TWELVE_200 200, 200, 200, 200, 200, 200, 200, 200, 200, 200, 200, 200
 
-static const Taken32 takens[] = {
+static const Taken takens[] = {
     /* 48 is 64, and the view is 48 wide: V stands 32 columns after U in luma, so that 31 is the last odd column (15 and 47) and 33 would
      * want 48; and 16 after it in chroma, whose rows have 24, so that 30 is the last even column (7 and 23) and 32 would want 24 */
-    {48, 48, 48, 32,
+    {AUX_V2_32, 48, 48, 48, 32,
      {200, 0, 200, 1, 200, 2, 200, 3, 200, 4, 200, 5, 200, 6, 200, 7, 200, 8, 200, 9, 200, 10, 200, 11, 200, 12, 200, 13, 200, 14, 200, 15,
       SIXTEEN_200},
      {100, 0, 150, 1, 101, 2, 151, 3, 102, 4, 152, 5, 103, 6, 153, 7, 104, 8, 154, 9, 105, 10, 155, 11, 106, 12, 156, 13, 107, 14, 157, 15,
@@ -273,16 +275,35 @@ static const Taken32 takens[] = {
      {116, 32, 166, 33, 117, 34, 167, 35, 118, 36, 168, 37, 119, 38, 169, 39, 120, 40, 170, 41, 121, 42, 171, 43, 122, 44, 172, 45, 123, 46,
       173, 47, SIXTEEN_200}},
     /* 20 is 32, however wide the view: here it is 40, which would be 48 by the 16 rule. Columns 0 to 19 are the picture's */
-    {20, 40, 32, 20,
+    {AUX_V2_32, 20, 40, 32, 20,
      {200, 0, 200, 1, 200, 2, 200, 3, 200, 4, 200, 5, 200, 6, 200, 7, 200, 8, 200, 9, TWELVE_200},
      {100, 0, 150, 1, 101, 2, 151, 3, 102, 4, 152, 5, 103, 6, 153, 7, 104, 8, 154, 9, TWELVE_200},
      {200, 16, 200, 17, 200, 18, 200, 19, 200, 20, 200, 21, 200, 22, 200, 23, 200, 24, 200, 25, TWELVE_200},
      {108, 16, 158, 17, 109, 18, 159, 19, 110, 20, 160, 21, 111, 22, 161, 23, 112, 24, 162, 25, TWELVE_200}},
     /* 16 is 32: of a view that is 16 wide there is no V at all, and nothing is taken */
-    {16, 16, 16, 0, {SIXTEEN_200}, {SIXTEEN_200}, {SIXTEEN_200}, {SIXTEEN_200}},
+    {AUX_V2_32, 16, 16, 16, 0, {SIXTEEN_200}, {SIXTEEN_200}, {SIXTEEN_200}, {SIXTEEN_200}},
     /* and of one that is 18 wide columns 1 and 3 (V at 16 and 17) and, since its chroma is 9 wide, 0 and 2 (V at 8) */
-    {16, 18, 16, 4, {200, 0, 200, 1, TWELVE_200}, {100, 0, 150, 1, TWELVE_200}, {200, 16, 200, 17, TWELVE_200},
-     {108, 16, 158, 17, TWELVE_200}}};
+    {AUX_V2_32, 16, 18, 16, 4, {200, 0, 200, 1, TWELVE_200}, {100, 0, 150, 1, TWELVE_200}, {200, 16, 200, 17, TWELVE_200},
+     {108, 16, 158, 17, TWELVE_200}},
+    /* Exact, 20 is 20, however wide the view: V stands 10 columns after U in luma, and 5 after it in chroma */
+    {AUX_V2_EXACT, 20, 32, 32, 20,
+     {200, 0, 200, 1, 200, 2, 200, 3, 200, 4, 200, 5, 200, 6, 200, 7, 200, 8, 200, 9, TWELVE_200},
+     {100, 0, 150, 1, 101, 2, 151, 3, 102, 4, 152, 5, 103, 6, 153, 7, 104, 8, 154, 9, TWELVE_200},
+     {200, 10, 200, 11, 200, 12, 200, 13, 200, 14, 200, 15, 200, 16, 200, 17, 200, 18, 200, 19, TWELVE_200},
+     {105, 10, 155, 11, 106, 12, 156, 13, 107, 14, 157, 15, 108, 16, 158, 17, 109, 18, 159, 19, TWELVE_200}},
+    /* Exact, 18 is no multiple of 4: V stands 9 and 4 columns after U, so that U's even column 16 and V's column 0 are one byte, 104 */
+    {AUX_V2_EXACT, 18, 32, 32, 18,
+     {200, 0, 200, 1, 200, 2, 200, 3, 200, 4, 200, 5, 200, 6, 200, 7, 200, 8, 200, 200, TWELVE_200},
+     {100, 0, 150, 1, 101, 2, 151, 3, 102, 4, 152, 5, 103, 6, 153, 7, 104, 8, 200, 200, TWELVE_200},
+     {200, 9, 200, 10, 200, 11, 200, 12, 200, 13, 200, 14, 200, 15, 200, 16, 200, 17, 200, 200, TWELVE_200},
+     {104, 9, 154, 10, 105, 11, 155, 12, 106, 13, 156, 14, 107, 15, 157, 16, 108, 17, 200, 200, TWELVE_200}},
+    /* Exact, and the view is as wide as the picture, 17, which is odd: V stands 8 and 4 columns after U. Column 17, which the last block
+     * has, would want column 16 of luma for V, and has it; and U's of column 17 and V's of column 1 are one byte, 8 */
+    {AUX_V2_EXACT, 17, 17, 32, 18,
+     {200, 0, 200, 1, 200, 2, 200, 3, 200, 4, 200, 5, 200, 6, 200, 7, 200, 8, 200, 200, TWELVE_200},
+     {100, 0, 150, 1, 101, 2, 151, 3, 102, 4, 152, 5, 103, 6, 153, 7, 104, 8, 200, 200, TWELVE_200},
+     {200, 8, 200, 9, 200, 10, 200, 11, 200, 12, 200, 13, 200, 14, 200, 15, 200, 16, 200, 200, TWELVE_200},
+     {104, 8, 154, 9, 105, 10, 155, 11, 106, 12, 156, 13, 107, 14, 157, 15, 108, 16, 200, 200, TWELVE_200}}};
 
 /* A row after the first two: its odd columns are 60 + r, its even ones 200 or, in an odd row, 70 + k and 90 + k in turns. */
 static bool later_row(const uint8_t *row, size_t r, size_t taken, size_t stride)
@@ -290,33 +311,48 @@ static bool later_row(const uint8_t *row, size_t r, size_t taken, size_t stride)
     const uint8_t odd = (uint8_t)(60 + r), of_u = (uint8_t)(r % 2 ? 70 + r / 2 : 200), of_v = (uint8_t)(r % 2 ? 90 + r / 2 : 200);
     const uint8_t four[4] = {of_u, odd, of_v, odd};
     bool right = all_are(row + taken, stride - taken, 200);
-    for (size_t c = 0; c < taken; c += 4)
-        right = right && memcmp(row + c, four, 4) == 0;
+    for (size_t c = 0; c < taken; c++)
+        right = right && row[c] == four[c % 4];
     return right;
 }
 
-static void taken_is(const Taken32 *want, const Args *a)
+static void taken_is(const Taken *want, const Args *a)
 {
+    const char *name = call_names[want->call];
     const size_t stride = want->stride;
     const uint8_t *u = a->at[U], *v = a->at[V];
-    check(memcmp(u, want->even_u, stride) == 0 && memcmp(u + stride, want->odd_u, stride) == 0, "apply_auxiliary_v2_32", "U");
-    check(memcmp(v, want->even_v, stride) == 0 && memcmp(v + stride, want->odd_v, stride) == 0, "apply_auxiliary_v2_32", "V");
+    check(memcmp(u, want->even_u, stride) == 0 && memcmp(u + stride, want->odd_u, stride) == 0, name, "U");
+    check(memcmp(v, want->even_v, stride) == 0 && memcmp(v + stride, want->odd_v, stride) == 0, name, "V");
     bool right = true;
     for (size_t r = 2; r < 16; r++)
         right = right && later_row(u + r * stride, r, want->taken, stride) && later_row(v + r * stride, r, want->taken, stride);
-    check(right, "apply_auxiliary_v2_32", "the other rows");
+    check(right, name, "the other rows");
 }
 
-static void taken_32_by_hand(void)
+static void taken_by_hand(void)
 {
     for (size_t k = 0; k < sizeof takens / sizeof *takens; k++) {
+        const enum call call = takens[k].call;
         Args a = view_in_columns(takens[k].width, takens[k].view_width);
-        Result r = tried(AUX_V2_32, &a);
-        check(is_refusal(&r, 0), "apply_auxiliary_v2_32", "the number");
+        Result r = tried(call, &a);
+        check(is_refusal(&r, 0), call_names[call], "the number");
         taken_is(&takens[k], &a);
         check(kept_from(a.at[Y], 0) && kept_from(a.at[VIEW_Y], 0) && kept_from(a.at[VIEW_U], 0) && kept_from(a.at[VIEW_V], 0),
-              "apply_auxiliary_v2_32", "luma and the view");
-        over(AUX_V2_32);
+              call_names[call], "luma and the view");
+        over(call);
+    }
+}
+
+/* Exact, where the width is a multiple of 16: every byte is that of the 16 rule, with a view that wide. */
+static void exact_as_16(void)
+{
+    for (uint16_t width = 16; width <= 48; width = (uint16_t)(width + 16)) {
+        Args a = view_in_columns(width, width), b = view_in_columns(width, width);
+        Result one = tried(AUX_V2_EXACT, &a), two = tried(AUX_V2, &b);
+        check(is_refusal(&one, 0) && is_refusal(&two, 0), "apply_auxiliary_v2_exact", "the number as by the 16 rule");
+        check(memcmp(a.at[U], b.at[U], a.count[U]) == 0 && memcmp(a.at[V], b.at[V], a.count[V]) == 0 && !all_are(a.at[U], a.count[U], 200),
+              "apply_auxiliary_v2_exact", "every byte as by the 16 rule");
+        over(AUX_V2_EXACT);
     }
 }
 
@@ -354,7 +390,7 @@ static void taken_32_far(void)
 }
 
 /* 1, 7, 3 and 4, each a byte or a number away from what is accepted, and in this order: 48 x 16 and a view of 64 x 16. */
-static void taken_32_in_order(void)
+static void taken_in_order(enum call call)
 {
     static const struct { size_t y, u, v, list, luma, chroma, view_y, view_u, view_v; uint32_t number; } cases[] = {
         {768, 768, 768, 4, 64, 32, 1024, 256, 256, 0}, {767, 768, 768, 4, 64, 32, 1024, 256, 256, 1},
@@ -372,10 +408,10 @@ static void taken_32_in_order(void)
         for (int s = Y; s <= VIEW_V; s++)
             a.count[s] = counts[s];
         a.luma_stride = cases[k].luma, a.chroma_stride = cases[k].chroma;
-        Result r = tried(AUX_V2_32, &a);
-        check(is_refusal(&r, cases[k].number), "apply_auxiliary_v2_32", "1, 7, 3 and 4 in order");
-        check(lent_kept() == (cases[k].number != 0 || cases[k].list == 0), "apply_auxiliary_v2_32", "what a refusal changes");
-        over(AUX_V2_32);
+        Result r = tried(call, &a);
+        check(is_refusal(&r, cases[k].number), call_names[call], "1, 7, 3 and 4 in order");
+        check(lent_kept() == (cases[k].number != 0 || cases[k].list == 0), call_names[call], "what a refusal changes");
+        over(call);
     }
 }
 
@@ -387,9 +423,11 @@ static void width_rules(void)
     split_32_at_its_limit();
     split_32_in_order();
     split_32_widest();
-    taken_32_by_hand();
+    taken_by_hand();
     taken_32_far();
-    taken_32_in_order();
+    exact_as_16();
+    taken_in_order(AUX_V2_32);
+    taken_in_order(AUX_V2_EXACT);
 }
 
 #endif
