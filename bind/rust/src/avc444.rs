@@ -22,13 +22,16 @@ pub enum Avc444Layout {
 /// its chroma.
 ///
 /// No stream says which rule it is; it is the server's. The original has one rule, [`WidthRule::To16`], and no type for it. At a width of
-/// 48, W is 48 by the one and 64 by the other.
+/// 66, W is 80 by `To16`, 96 by `To32`, and 66 by `Exact`.
 #[derive(Debug, Clone, Copy, PartialEq, Eq)]
 pub enum WidthRule {
     /// A view's own width rounded up to 16, and a split's stride: what the original does.
     To16,
     /// The picture's width rounded up to 32: for servers that round the width of their surface so.
     To32,
+    /// The picture's width, not rounded, as FreeRDP's server lays its views out. For [`Yuv444Frame::apply_auxiliary_view_v2`] alone: where the
+    /// width is no multiple of 4, two samples share a place of the view, so that no split could write both.
+    Exact,
 }
 
 /// A YUV 4:4:4 picture in the colours of MS-RDPEGFX, its planes padded to whole macroblocks.
@@ -214,8 +217,8 @@ impl Yuv444Frame {
 
     /// The same for an auxiliary view of layout V2, by a rule for its width, which the original has no call for.
     ///
-    /// By [`WidthRule::To16`] it is [`Self::apply_auxiliary_view`] with [`Avc444Layout::V2`]. By [`WidthRule::To32`] the picture's width
-    /// says where V stands in the view, and the view's own width which samples there are.
+    /// By [`WidthRule::To16`] it is [`Self::apply_auxiliary_view`] with [`Avc444Layout::V2`]. By [`WidthRule::To32`] and [`WidthRule::Exact`]
+    /// the picture's width says where V stands in the view, and the view's own width which samples there are.
     ///
     /// ```
     /// use haythaw::avc444::{WidthRule, Yuv444Frame};
@@ -240,6 +243,7 @@ impl Yuv444Frame {
         let apply = match rule {
             WidthRule::To16 => library::apply_auxiliary_v2,
             WidthRule::To32 => library::apply_auxiliary_v2_32,
+            WidthRule::Exact => library::apply_auxiliary_v2_exact,
         };
         let (size, planes) = self.lent_mut();
         library::done("apply_auxiliary_view_v2", apply(size, planes, library::numbers_of(rects), view.lent()));
@@ -326,7 +330,7 @@ impl Yuv444Frame {
     /// # Errors
     ///
     /// When the width of the views or their height is above 65,535: that is, when the height is above 65,520, or the width above 65,520 by
-    /// [`WidthRule::To16`] and above 65,504 by [`WidthRule::To32`].
+    /// [`WidthRule::To16`] and above 65,504 by [`WidthRule::To32`]. By [`WidthRule::Exact`] always: there is no split by it.
     ///
     /// ```
     /// use haythaw::avc444::{WidthRule, Yuv444Frame};
@@ -339,12 +343,14 @@ impl Yuv444Frame {
     ///
     /// assert_eq!(red.split_v2(WidthRule::To16)?.1.width(), 48);
     /// assert!(Yuv444Frame::new(65_505, 0).split_v2(WidthRule::To32).is_err());
+    /// assert!(red.split_v2(WidthRule::Exact).is_err());
     /// # Ok::<(), haythaw::decode::DecoderError>(())
     /// ```
     pub fn split_v2(&self, rule: WidthRule) -> DecoderResult<(Yuv420Frame, Yuv420Frame)> {
         match rule {
             WidthRule::To16 => self.split_by(library::split_v2, 16),
             WidthRule::To32 => self.split_by(library::split_v2_32, 32),
+            WidthRule::Exact => Err(DecoderError::msg("no picture is split by a width that is not rounded")),
         }
     }
 

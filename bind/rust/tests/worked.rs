@@ -188,6 +188,29 @@ fn the_32_rule_is_of_the_picture() {
     }
 }
 
+/// By the rule Exact 20 is 20, however wide the view: V of column 1 stands at 10, and by the 16 rule, of a view 32 wide, at 16.
+#[test]
+fn the_rule_exact_does_not_round() {
+    for width in [20, 32, 40] {
+        let mut luma = vec![0; usize::from(width)];
+        (luma[0], luma[10], luma[16]) = (7, 9, 11);
+        let chroma = vec![0; luma.len() / 2];
+        let stride = luma.len();
+        let view = Yuv420Frame::new(width, 1, luma, stride, chroma.clone(), chroma, stride / 2).expect("a row");
+        let mut picture = Yuv444Frame::new(20, 1);
+        picture.apply_auxiliary_view_v2(WidthRule::Exact, &view, &[rect([0, 0, 20, 1])]);
+        let (_, [_, u, v]) = planes(&picture);
+        assert_eq!((u[1], v[1]), (7, 9), "a view {width} wide");
+        if width == 32 {
+            picture.apply_auxiliary_view_v2(WidthRule::To16, &view, &[rect([0, 0, 20, 1])]);
+            let (_, [_, u, v]) = planes(&picture);
+            assert_eq!((u[1], v[1]), (7, 11), "the 16 rule");
+        }
+    }
+    let error = Yuv444Frame::new(20, 1).split_v2(WidthRule::Exact).unwrap_err();
+    assert_eq!(error.to_string(), "decoder error: no picture is split by a width that is not rounded");
+}
+
 #[test]
 fn a_list_of_rectangles_is_served_to_its_end() {
     let mut picture = Yuv444Frame::new(5, 5);

@@ -77,4 +77,6 @@ applying! {
     apply_auxiliary_v2 is haythaw_apply_auxiliary_v2;
     /// The same by the 32 rule: W is the picture's width rounded up to 32. 0, 1, 7, 3 or 4.
     apply_auxiliary_v2_32 is haythaw_apply_auxiliary_v2_32;
+    /// The same by the rule Exact: W is the picture's width. 0, 1, 7, 3 or 4.
+    apply_auxiliary_v2_exact is haythaw_apply_auxiliary_v2_exact;
 }
