@@ -58,6 +58,7 @@ pub const SUITES: &[Suite] = &[
     apply::V1_SUITE,
     apply::V2_SUITE,
     apply::V2_32_SUITE,
+    apply::V2_EXACT_SUITE,
     split::V1_SUITE,
     split::V2_SUITE,
     split::V2_32_SUITE,

@@ -43,7 +43,12 @@ by 1 to 31
 named: those of apply_main_view; widths about 65,505, where W is 65,536
 random: those of apply_main_view";
 
-/// Every case of a call by the 32 rule: more widths, and fewer heights, which are to it what they are to the others.
+/// The same of the rule Exact.
+pub const ABOUT_EXACT: &str =
+    "the original applies the view, whose rows are laid out anew as the 16 rule has them; what the view has not is kept
+the cases of apply_auxiliary_v2_32, with views padded to a multiple of 16 and cropped by 1 to 15";
+
+/// Every case of a call by the 32 rule, or by the rule Exact: more widths, and fewer heights, which are to it what they are to the others.
 pub fn by_width(run: &mut Run, call: &'static Call) {
     let sources = Sources::new();
     named::every(run, call, &sources);

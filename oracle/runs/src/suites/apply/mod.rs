@@ -1,9 +1,11 @@
 //! `haythaw_apply_main_view`, `haythaw_apply_auxiliary_v1` and `_v2` beside `Yuv444Frame::apply_main_view` and
-//! `apply_auxiliary_view`; and `haythaw_apply_auxiliary_v2_32`, which the original has no call for, beside the latter over wider planes.
+//! `apply_auxiliary_view`; and `haythaw_apply_auxiliary_v2_32` and `_v2_exact`, which the original has no calls for, beside the latter over
+//! wider planes and over a view that is laid out anew.
 
 mod bench;
 mod case;
 mod cases;
+mod exact;
 mod named;
 mod wide;
 
@@ -35,6 +37,8 @@ const V2: Call = Call {
 
 const V2_32: Call = Call { ours: ours::apply_auxiliary_v2_32, theirs: wide::apply, unit: 32 };
 
+const V2_EXACT: Call = Call { ours: ours::apply_auxiliary_v2_exact, theirs: exact::apply, unit: 16 };
+
 pub const MAIN_SUITE: Suite = Suite {
     name: "apply_main_view",
     about: cases::ABOUT,
@@ -61,6 +65,13 @@ pub const V2_32_SUITE: Suite = Suite {
     about: cases::ABOUT_WIDTHS,
     run: |run| cases::by_width(run, &V2_32),
     replay: |run, words| replay(run, words, &V2_32),
+};
+
+pub const V2_EXACT_SUITE: Suite = Suite {
+    name: "apply_auxiliary_v2_exact",
+    about: cases::ABOUT_EXACT,
+    run: |run| cases::by_width(run, &V2_EXACT),
+    replay: |run, words| replay(run, words, &V2_EXACT),
 };
 
 fn replay(run: &mut Run, words: &[u64], call: &'static Call) -> Result<(), String> {

@@ -26,7 +26,7 @@ pub fn apply(picture: &mut Yuv444Frame, view: &Yuv420Frame, rects: &[ExclusiveRe
 }
 
 /// Puts back what was before, wherever U or V depends on what the view has not.
-fn keep_missing(after: &mut [Vec<u8>; 3], other: &[Vec<u8>; 3], before: [&[u8]; 3]) {
+pub fn keep_missing(after: &mut [Vec<u8>; 3], other: &[Vec<u8>; 3], before: [&[u8]; 3]) {
     for at in 0..before[0].len() {
         if after[1][at] != other[1][at] || after[2][at] != other[2][at] {
             (after[1][at], after[2][at]) = (before[1][at], before[2][at]);
