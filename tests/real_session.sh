@@ -13,7 +13,7 @@
 set -euo pipefail
 cd "$(dirname "${BASH_SOURCE[0]}")/.."
 
-readonly PICTURES=12 LIMIT=20 folder=oracle/build/real_session
+readonly PICTURES=14 LIMIT=20 folder=oracle/build/real_session
 readonly packages=(freerdp2-shadow-x11 freerdp2-x11 xvfb xz-utils freerdp2-dev libwinpr2-dev libavcodec-dev libx11-dev)
 readonly include=(-isystem /usr/include/freerdp2 -isystem /usr/include/winpr2)
 layout=v2 sizes=() install=''
@@ -21,10 +21,14 @@ work='' started=() next='' display=''
 
 say() { printf 'real session: %s\n' "$*"; }
 
-# Says what went wrong, and shows the end of a log.
-fail() { # WHAT [LOG]
+# Says what went wrong, and shows the end of each log.
+fail() { # WHAT [LOG ..]
+    local log
     printf 'real_session.sh: %s\n' "$1" >&2
-    if [[ -n ${2:-} && -f $2 ]]; then printf 'the end of its log:\n' >&2 && tail -n 15 "$2" | sed 's/^/    /' >&2; fi
+    for log in "${@:2}"; do
+        printf 'the end of %s:\n' "${log##*/}" >&2
+        tail -n 15 "$log" | sed 's/^/    /' >&2
+    done
     exit 1
 }
 
@@ -58,10 +62,15 @@ missing() {
     includes X11/Xlib.h || echo libx11-dev
 }
 
+install_packages() {
+    apt-get update
+    DEBIAN_FRONTEND=noninteractive apt-get install -y --no-install-recommends "${packages[@]}"
+}
+
 at_hand() {
     local command lack
     for command in cc python3 setsid; do command -v "$command" >/dev/null || fail "$command is not at hand"; done
-    if [[ -n $install ]]; then DEBIAN_FRONTEND=noninteractive apt-get install -y --no-install-recommends "${packages[@]}"; fi
+    if [[ -n $install ]]; then install_packages; fi
     lack=$(missing | tr '\n' ' ')
     [[ -z $lack ]] || fail "not at hand: ${lack}(Debian's packages of these names; --install)"
 }
@@ -73,12 +82,19 @@ build() {
         cc -std=gnu11 "${strict[@]}" -D_GNU_SOURCE -fPIC -shared "${include[@]}" "tests/real_session/record_$side.c" -o "$folder/record_$side.so"
     done
     cc -std=gnu11 "${strict[@]}" tests/real_session/painter.c -lX11 -o "$folder/painter"
+    cc -std=c99 "${strict[@]}" -Ibind/c tests/real_session/shown.c oracle/build/libhaythaw.a -o "$folder/shown"
+    cc -std=gnu11 "${strict[@]}" -Ibind/c tests/real_session/decoders.c oracle/build/libhaythaw.a -lavcodec -lavutil -o "$folder/decoders"
+}
+
+versions() {
+    # shellcheck disable=SC2016 # dpkg-query's own names
+    dpkg-query -W -f '${Package} ${Version}\n' freerdp2-shadow-x11 freerdp2-x11 libavcodec59 libx264-164 xvfb 2>/dev/null || true
 }
 
 # ---- Processes: each in a group of its own, so that it is ended with all that it started, and nothing else is ----
 
-run() { # LOG WORDS...: in the background; its standard input is that of this call
-    setsid "${@:2}" <&0 >"$1" 2>&1 &
+run() { # LOG WORDS...: in the background; $input is its standard input
+    setsid "${@:2}" <"${input:-/dev/null}" >"$1" 2>&1 &
     started+=($!)
 }
 
@@ -127,8 +143,8 @@ start_screen() { # WHICH SIZE
 start_painter() {
     rm -f "$work/next" && mkfifo "$work/next"
     exec {next}<>"$work/next"
-    DISPLAY=$display run "$work/painter.log" "$folder/painter" "$PICTURES" <"$work/next"
-    wait_for "$LIMIT" "${started[-1]}" grep -q '^painted 1$' "$work/painter.log" || fail 'the painter paints nothing' "$work/painter.log"
+    DISPLAY=$display input=$work/next run "$work/painter.log" "$folder/painter" "$PICTURES"
+    wait_for "$LIMIT" "${started[-1]}" grep -qs '^painted 1$' "$work/painter.log" || fail 'the painter paints nothing' "$work/painter.log"
 }
 
 listening() { grep -q "^ *[0-9]*: 0100007F:$(printf %04X "$1") 00000000:0000 0A " /proc/net/tcp; } # PORT, on 127.0.0.1
@@ -155,15 +171,28 @@ more_than() { [[ $(through "$1") -gt $2 ]]; }                           # RECORD
 # Waits for a payload more than COUNT, and until none has come for half a second.
 settle() { # RECORD COUNT WHAT
     local before
-    wait_for "$LIMIT" "${started[-1]}" more_than "$1" "$2" || fail "no payload for $3 came through" "$work/client.log"
+    wait_for "$LIMIT" "${started[-1]}" more_than "$1" "$2" || fail "no payload for $3 came through" "$work/server.log" "$work/client.log"
     while before=$(through "$1"); do
         sleep 0.5
         [[ $(through "$1") -ne $before ]] || return 0
     done
 }
 
+# The next picture, each time the client has done with the one before. Where the server sends its first look at the screen before it has read the
+# client's capabilities, it is no AVC444, and nothing more comes before something changes: then the second picture is the first that is recorded.
+follow() { # RECORD
+    local painted=1 had=0
+    wait_for 3 "${started[-1]}" more_than "$1" 0 || { echo >&"$next" && painted=2; }
+    settle "$1" 0 'the first pictures'
+    for ((; painted < PICTURES; painted++)); do
+        had=$(through "$1")
+        echo >&"$next"
+        settle "$1" "$had" "picture $((painted + 1))"
+    done
+}
+
 session() { # SIZE
-    local size=$1 name=${layout}_$1 record port n first=${#started[@]}
+    local size=$1 name=${layout}_$1 record port first=${#started[@]}
     record=$work/$name port=$(free_port)
     start_screen client 1024x768
     local client_display=$display
@@ -173,22 +202,21 @@ session() { # SIZE
     say "$name: freerdp-shadow-cli is up on 127.0.0.1:$port, its screen is $display"
     display=$client_display
     start_client "$record" "$port" "$size"
-    settle "$record" 0 'the first picture'
-    for ((n = 2; n <= PICTURES; n++)); do
-        local had
-        had=$(through "$record")
-        echo >&"$next"
-        settle "$record" "$had" "picture $n"
-    done
+    follow "$record"
     end_from "$first"
     exec {next}>&-
     keep "$name" "$record"
 }
 
-# Each payload has its screen; a client that is cut off in the middle of one would show here.
+bytes() { stat -c %s "$1"; } # FILE
+
+# Puts the recording where it stays. A client that was cut off within a payload, or a server that was a picture ahead, would show here.
 keep() { # NAME RECORD
     local payloads file
     payloads=$(through "$2")
+    for file in planes client screen; do
+        [[ $(bytes "$2.$file") -eq $(bytes "$2.planes") ]] || fail "$1: the client's planes have $(bytes "$2.planes") bytes, $file has $(bytes "$2.$file")"
+    done
     for file in views planes client screen; do xz -T1 -1 --stdout "$2.$file" >"$folder/$1.$file.xz"; done
     mv "$2.rdpgfx" "$2.freerdp.txt" "$folder/"
     say "$1: $PICTURES pictures painted, $payloads payloads recorded"
@@ -196,7 +224,9 @@ keep() { # NAME RECORD
 
 arguments "$@"
 at_hand
-say 'making the recorder and the painter'
+versions
+say 'making the library, the recorder and the painter'
+oracle/library.sh
 build
 work=$(mktemp -d)
 trap end_all EXIT
@@ -208,3 +238,6 @@ for size in "${sizes[@]}"; do
     session "$size"
     names+=("${layout}_$size")
 done
+say 'holding the recordings to the library'
+tests/recorded.py --folder "$folder" "${names[@]}"
+python3 tests/real_session/numbers.py "${names[@]}"
