@@ -12,6 +12,7 @@ import sys
 import zlib
 
 ROOT = os.path.dirname(os.path.dirname(os.path.abspath(__file__)))
+sys.dont_write_bytecode = True
 sys.path.insert(0, os.path.join(ROOT, 'tests', 'real_session'))
 from session import Session  # noqa: E402
 
@@ -67,13 +68,13 @@ def part_of(picture, session, left, top, size):
 def bands():
     """What the picture shows, from top to bottom: a size, and parts of that size with their labels."""
     v2, v1 = Session('v2_334x201'), Session('v1_336x200')
-    of_v2 = {"the server's screen": v2.recorded('screen'), 'ours, W exact': v2.shown('exact'), 'ours, W to 16': v2.shown('16'),
+    of_v2 = {"server's screen": v2.recorded('screen'), 'ours, W exact': v2.shown('exact'), 'ours, W to 16': v2.shown('16'),
              "FreeRDP's client": v2.recorded('client')}
-    of_v1 = {"the server's screen": v1.recorded('screen'), 'ours': v1.shown(), "FreeRDP's client": v1.recorded('client')}
-    yield PART, {f'V2: {label}': part_of(picture, v2, 0, 0, PART) for label, picture in of_v2.items()}
-    yield PART, {f'V1: {label}': part_of(picture, v1, 0, 0, PART) for label, picture in of_v1.items()}
+    of_v1 = {"server's screen": v1.recorded('screen'), 'ours': v1.shown(), "FreeRDP's client": v1.recorded('client')}
+    yield PART, {f'V2 334x201: {label}': part_of(picture, v2, 0, 0, PART) for label, picture in of_v2.items()}
+    yield PART, {f'V1 336x200: {label}': part_of(picture, v1, 0, 0, PART) for label, picture in of_v1.items()}
     edge = (v2.width - EDGE[0], v2.height - EDGE[1], EDGE)
-    yield EDGE, {f'edge: {label}': part_of(picture, v2, *edge) for label, picture in of_v2.items()}
+    yield EDGE, {f'last rows: {label}': part_of(picture, v2, *edge) for label, picture in of_v2.items()}
 
 
 def main():

@@ -178,8 +178,8 @@ settle() { # RECORD COUNT WHAT
     done
 }
 
-# The next picture, each time the client has done with the one before. Where the server sends its first look at the screen before it has read the
-# client's capabilities, it is no AVC444, and nothing more comes before something changes: then the second picture is the first that is recorded.
+# The next picture, each time the client has done with the one before. The server shows its screen to a client by planar bitmaps until it has read the
+# client's capabilities; where it is late with that, no AVC444 comes before something changes, and the second picture is the first that is recorded.
 follow() { # RECORD
     local painted=1 had=0
     wait_for 3 "${started[-1]}" more_than "$1" 0 || { echo >&"$next" && painted=2; }

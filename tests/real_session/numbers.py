@@ -6,9 +6,8 @@
 import collections
 import sys
 
-from session import PARAMETERS, SLICE_IDR, Session, mean_error, units_of
-
-RULES = {'v1': ['v1'], 'exact': ['exact', '16', '32']}  # by the right rule of a session, which of ours are tried
+sys.dont_write_bytecode = True
+from session import PARAMETERS, SLICE_IDR, Session, mean_error, units_of  # noqa: E402
 
 
 def kinds_of_frames(session):
@@ -46,20 +45,33 @@ def what_it_is_like(sessions):
                           *kinds_of_frames(one), parameters_of(one), mean))
 
 
-def rows_of(picture, session, rows):
-    return b''.join(picture[3 * session.width * row:3 * session.width * (row + 1)] for row in rows)
+def by_decoders(sessions):
+    line = '{:<11} {:>18} {:>18} {:>18} {:>18}'
+    print('what libavcodec makes of the H.264 parts: views as recorded / otherwise / not at all')
+    print(line.format('', 'one decoder: main', 'auxiliary', 'two decoders: main', 'auxiliary'))
+    for one in sessions:
+        ends = ('/'.join(map(str, end)) for decoders in one.decoders() for end in decoders)
+        print(line.format(one.name, *ends))
+
+
+def parts_of(picture, session):
+    """The last row, the first column, and all that is in neither."""
+    row = 3 * session.width
+    return [picture[-row:], b''.join(picture[channel::row] for channel in range(3)),
+            b''.join(picture[row * place + 3:row * (place + 1)] for place in range(session.height - 1))]
 
 
 def how_far_off(sessions):
-    line = '{:<11} {:>9} {:>9} {:>9} {:>9} {:>16} {:>11} {:>11}'
-    print(line.format('session', 'right W', 'W to 16', 'W to 32', 'cropped', "FreeRDP's client", 'last row', 'other rows'))
+    line = '{:<11} {:>8} {:>8} {:>8} {:>8} {:>9} {:>9} {:>10} {:>17}'
+    print("the last picture beside the server's screen: mean difference of red, green and blue")
+    print(line.format('', 'right W', 'last row', 'column 0', 'else', 'cropped', 'W to 16', 'W to 32', "FreeRDP's client"))
     for one in sessions:
         screen, right = one.recorded('screen'), one.shown()
-        pictures = [right] + [one.shown(rule) for rule in RULES[one.rule][1:]]
-        off = [f'{mean_error(screen, picture):.2f}' for picture in pictures] + ['-'] * (3 - len(pictures))
-        parts = [mean_error(rows_of(screen, one, rows), rows_of(right, one, rows)) for rows in ([one.height - 1], range(one.height - 1))]
-        others = [one.shown(view=one.decoded), one.recorded('client')]
-        print(line.format(one.name, *off, *(f'{mean_error(screen, picture):.2f}' for picture in others), *(f'{part:.2f}' for part in parts)))
+        off = [mean_error(screen, right)] + [mean_error(*pair) for pair in zip(parts_of(screen, one), parts_of(right, one))]
+        off += [mean_error(screen, one.shown(view=one.decoded))]
+        off += [mean_error(screen, one.shown(rule)) if one.rule == 'exact' else None for rule in ('16', '32')]
+        off += [mean_error(screen, one.recorded('client'))]
+        print(line.format(one.name, *('-' if number is None else f'{number:.2f}' for number in off)))
 
 
 def main():
@@ -68,6 +80,8 @@ def main():
         print(__doc__, file=sys.stderr)
         return 2
     what_it_is_like(sessions)
+    print()
+    by_decoders(sessions)
     print()
     how_far_off(sessions)
     return 0

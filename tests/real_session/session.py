@@ -77,12 +77,21 @@ class Session:
         with lzma.open(f'{self.at}.{ending}.xz') as file:
             return file.read()[-3 * self.width * self.height:]
 
-    def shown(self, rule=None, view=None):
-        """The last picture as the library shows it, by a rule and from views that are handed over as so wide and high."""
+    def through(self, program, *words):
+        """What a program beside the recordings answers that takes the views as standard input."""
         with lzma.open(self.at + '.views.xz') as file:
             views = file.read()
-        words = [os.path.join(FOLDER, 'shown'), rule or self.rule, self.at + '.rdpgfx', *map(str, self.coded + (view or self.coded))]
-        ended = subprocess.run(words, input=views, stdout=subprocess.PIPE, check=False)
+        ended = subprocess.run([os.path.join(FOLDER, program), *map(str, words)], input=views, stdout=subprocess.PIPE, check=False)
         if ended.returncode:
-            stop(f'{self.name}: {" ".join(words)} ended with status {ended.returncode}')
-        return ended.stdout[-3 * self.width * self.height:]
+            stop(f'{self.name}: {program} ended with status {ended.returncode}')
+        return ended.stdout
+
+    def shown(self, rule=None, view=None):
+        """The last picture as the library shows it, by a rule and from views that are handed over as so wide and high."""
+        pictures = self.through('shown', rule or self.rule, self.at + '.rdpgfx', *self.coded, *(view or self.coded))
+        return pictures[-3 * self.width * self.height:]
+
+    def decoders(self):
+        """For one decoder and for two: of the main and of the auxiliary views, how many are as recorded, differ, and do not come out."""
+        lines = self.through('decoders', self.at + '.rdpgfx', *self.coded).decode().splitlines()
+        return [[numbers[:3], numbers[3:]] for numbers in ([int(number) for number in line.split()] for line in lines)]
