@@ -6,7 +6,7 @@
 #
 #   tests/real_session.sh [--install] [--v1] [WIDTHxHEIGHT ..]
 #
-#   --install      the packages first, by apt-get
+#   --install      the packages that are not at hand first, by apt-get
 #   --v1           the server is made to send AVC444 (V1); else it sends AVC444v2, as it does by itself
 #   WIDTHxHEIGHT   the size of its screen, the width even; 336x200, 334x201 and 800x600 where none is given
 #   --help         these lines
@@ -14,7 +14,6 @@ set -euo pipefail
 cd "$(dirname "${BASH_SOURCE[0]}")/.."
 
 readonly PICTURES=14 LIMIT=20 folder=oracle/build/real_session
-readonly packages=(freerdp2-shadow-x11 freerdp2-x11 xvfb xz-utils freerdp2-dev libwinpr2-dev libavcodec-dev libx11-dev)
 readonly include=(-isystem /usr/include/freerdp2 -isystem /usr/include/winpr2)
 layout=v2 sizes=() install=''
 work='' started=() next='' display=''
@@ -62,17 +61,16 @@ missing() {
     includes X11/Xlib.h || echo libx11-dev
 }
 
-install_packages() {
-    apt-get update
-    DEBIAN_FRONTEND=noninteractive apt-get install -y --no-install-recommends "${packages[@]}"
-}
-
 at_hand() {
-    local command lack
+    local command lack=()
     for command in cc python3 setsid; do command -v "$command" >/dev/null || fail "$command is not at hand"; done
-    if [[ -n $install ]]; then install_packages; fi
-    lack=$(missing | tr '\n' ' ')
-    [[ -z $lack ]] || fail "not at hand: ${lack}(Debian's packages of these names; --install)"
+    mapfile -t lack < <(missing)
+    if [[ -n $install && ${#lack[@]} -gt 0 ]]; then
+        apt-get update
+        DEBIAN_FRONTEND=noninteractive apt-get install -y --no-install-recommends "${lack[@]}"
+        mapfile -t lack < <(missing)
+    fi
+    [[ ${#lack[@]} -eq 0 ]] || fail "not at hand: ${lack[*]} (Debian's packages of these names; --install)"
 }
 
 build() {
