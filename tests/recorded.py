@@ -13,7 +13,7 @@ It needs neither FreeRDP nor H.264: what FreeRDP's parser, decoder and combiner 
   - the decoded views, applied over the rectangles that were read, make FreeRDP's planes, sample for sample, after its habits, which
     tests/recorded_habits.h names and counts;
   - the picture, once both views are there, is the server's screen: red, green and blue are off by less than 4 on average. V2 is read by
-    the exact rule for that. A rule whose W is another one is off by 4 or more in some picture; one whose W is the same makes the same planes.
+    the exact rule for that. A rule whose W is another one is off by 4 or more in the last picture; one whose W is the same makes the same planes.
 
 The self-test changes bits of every file, and has the sessions read wrongly: all of it has to be noticed (tests/recorded_self_test.py).
 It needs a C compiler (cc), and makes the library first where that is not made (oracle/library.sh).
@@ -125,11 +125,11 @@ def wrong_in_rules(session, answers):
     if session.version == 1:
         return
     for rule, wide in (('to16', up(session.coded[0], 16)), ('to32', up(session.width, 32))):
-        differ, far = sum(int(answer[f'else_{rule}']) for answer in answers), max(means(session, answers)[rule])
+        differ, far = sum(int(answer[f'else_{rule}']) for answer in answers), means(session, answers)[rule][-1]
         if wide == session.width and differ:
             yield f'{differ} samples are not the same by the exact rule and by {rule}, whose W is {wide}, too'
         if wide != session.width and far < FAR:
-            yield f'by {rule}, whose W is {wide}, no picture is off by more than {far:.2f} on average'
+            yield f'by {rule}, whose W is {wide}, the last picture is off by {far:.2f} on average, and not by {FAR} or more'
 
 
 def wrong_in(session, answers):
