@@ -26,7 +26,7 @@ static size_t may_write(enum call call, const Args *a, const Result *r, enum sli
         return 0;
     switch (call) {
     case NEW: case FROM_RGBA: case FROM_RGBA_RUST: case MAIN: return s <= V ? plane : 0;
-    case AUX_V1: case AUX_V2: case AUX_V2_32: return s == U || s == V ? plane : 0;
+    case AUX_V1: case AUX_V2: case AUX_V2_32: case AUX_V2_EXACT: return s == U || s == V ? plane : 0;
     case SPLIT_V1: case SPLIT_V2: case SPLIT_V2_32: return s == MAIN_Y || s == AUX_Y ? luma : s > MAIN_Y && s <= AUX_V ? luma / 4 : 0;
     case TO_RGBA: case VIEW_TO_RGBA: case ANNEX_B: case WRITE: return s == OUT ? r->count : 0;
     case LUMA_RECTS: case CHROMA_RECTS: return s == NUMBERS ? 2 * r->count : 0;

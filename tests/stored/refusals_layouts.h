@@ -1,4 +1,4 @@
-/* refusals_layouts: the main view and the auxiliary views applied, V2 by both rules: 1, 7, 3 and 4, in this order, each number at the edge
+/* refusals_layouts: the main view and the auxiliary views applied, V2 by each rule: 1, 7, 3 and 4, in this order, each number at the edge
  * where it begins. A line has the answer, and what the lent bytes are afterwards: unchanged, or a checksum of what was written. */
 #ifndef STORED_REFUSALS_LAYOUTS_H
 #define STORED_REFUSALS_LAYOUTS_H
@@ -6,7 +6,8 @@
 #include "cases.h"
 
 /* A picture's size and the lengths of its planes; a list of so many numbers; the strides of a view of 16 x 16 and the lengths of its
- * planes. A picture of 5 x 5 has planes of 16 x 16. All bytes of the picture are 201 before, and all of the view 199. */
+ * planes. A picture of 5 x 5 has planes of 16 x 16, and is 5 wide by the rule Exact, so that all its columns are taken of such a view too.
+ * All bytes of the picture are 201 before, and all of the view 199. */
 enum { VIEW_SIDE = 16, VIEW_BYTE = 199, APPLIED_PLANE = 256 };
 typedef struct {
     const char *name;
@@ -119,6 +120,7 @@ static const AppliedFile applied_files[] = {
     {"main", MAIN, VIEW_SIDE, CASES_OF(applied_cases)},
     {"auxiliary v1", AUX_V1, VIEW_SIDE, CASES_OF(applied_cases)},
     {"auxiliary v2", AUX_V2, VIEW_SIDE, CASES_OF(applied_cases)},
+    {"auxiliary v2 exact", AUX_V2_EXACT, VIEW_SIDE, CASES_OF(applied_cases)},
     {"auxiliary v2 32", AUX_V2_32, 2 * VIEW_SIDE, CASES_OF(applied_32_cases)},
     {"auxiliary v2 32, 16 wide", AUX_V2_32, VIEW_SIDE, CASES_OF(no_v_cases)},
 };
