@@ -301,7 +301,6 @@ def telling_words():
         '  is read by the 16 rule. Where they stand to the left, and the last 16 columns have none, its W is the smaller one: it rounds to 16, and is read by the 32 rule.',
         '- Ask the decoder for the coded width of the view, before any crop. For a surface 48 wide, 64 hints at the 32 rule, and 48 speaks against it: the V of column 47',
         f'  would be at column {column} of the {part} plane. For a surface 64 wide it says nothing.',
-        '',
         '- Where no width but a multiple of 16 is right by the 16 rule, and by the 32 rule no more are, the server does not round at all, as FreeRDP\'s: take the rule Exact,',
         '  by which W is the width of the surface as it is (R73). [REAL_SESSION.md](REAL_SESSION.md) shows such sessions.',
         '',
