@@ -2,16 +2,15 @@
 -- is even and no multiple of 4, the last even column of U stands where V begins in a chroma row; where it is odd, the column past the picture
 -- that its last block has stands where V begins in a luma row.
 -- Assumes nothing.
-use Prim.Native.Nat.{ℕ, _+_, _-_, _*_, _/_, _%_, _<_}
+use Prim.Native.Nat.{ℕ, _-_, _%_, _<_}
 use native.Mathlib.Omega.{arith}
 use mathlib.Core.Path.{_≡_, refl, ap}
 use mathlib.Core.Logic.{⊎-elim}
 use Rattle.lent.specs.Sizes.{roundUp}
-use Rattle.layout.specs.Maps.{Place, place, spot, toV2, mapsV2, maps, exactLayoutOf, PY, PU}
+use Rattle.layout.specs.Maps.{Place, place, mapsV2, maps, exactLayoutOf}
 use Rattle.layout.specs.Fed.{FedOnce, Clash}
-use Rattle.layout.specs.declared.Chroma.{Chroma}
 use Rattle.layout.specs.declared.Chroma.the-variants.{CU, CV}
-use Rattle.layout.proofs.Exists.{parity, fours, odd-test, even-test, fourth-test, leftOut-row, leftOut-col, carried-holds}
+use Rattle.layout.proofs.Exists.{parity, fours, odd-test, even-test, fourth-test, leftOut-row, carried-holds}
 use Rattle.layout.proofs.Fed.{spot-path, v2-fed, fed-once}
 
 pub exact-once : (W H : ℕ) → W % 4 ≡ 0 → H % 2 ≡ 0 → FedOnce (maps (exactLayoutOf W)) W H
