@@ -56,7 +56,7 @@ pub fn planes_short(size: Size, ny: usize, nu: usize, nv: usize) -> bool
 }
 
 // The plane holds `value` everywhere.
-fn fill_plane(plane: &mut [u8], stride: usize, rows: usize, value: u8)
+pub fn fill_plane(plane: &mut [u8], stride: usize, rows: usize, value: u8)
     requires { ⌜ rows * stride ≤ length (now plane) ⌝ }
     ensures { λ _. ⌜ now (plane .exit) ≡ painted stride rows whole (λ r c. value) (now (plane .entry)) ⌝ }
 {

@@ -4,13 +4,13 @@ use Prim.Native.Nat.{ℕ, _+_, _-_, _*_, _/_, _<_, _≤_, min}
 use native.Mathlib.Decide.{decLt}
 use native.Mathlib.Omega.{arith}
 use mathlib.Core.Path.{_≡_, refl, sym, ap, _∙_}
-use mathlib.Core.Bool.{true, false, true≢false}
+use mathlib.Core.Bool.{Bool, true, false, true≢false, _&&_}
 use mathlib.Core.Logic.{_↔_, inl, inr, ⊎-elim}
 use mathlib.Core.List.{List, [], _∷_}
 use lib.ListN.{length}
 use Rattle.lent.specs.Paint.{painted}
 use Rattle.lent.specs.Sizes.{roundUp}
-use Rattle.lent.proofs.Bools.{split, never-true}
+use Rattle.lent.proofs.Bools.{split, never-true, same-test, both, both-left, both-right}
 use Rattle.lent.proofs.Lists.{some-none, some-more, some-facts, some-holds, some-same}
 use Rattle.lent.proofs.Painted.{length-painted, painted-none, painted-ext}
 use Rattle.lent.proofs.Taken.{box-facts, box-holds}
@@ -63,6 +63,23 @@ taken-same rule ps qs f g r c =
     some-same (length ps / 4) (length qs / 4) (λ i. nth rule ps i r c) (λ j. nth rule qs j r c)
     (λ i lt. let m = f i lt in (m .0, (m .1 .0, sym (ap (λ (x : Rect). by rule x r c) (m .1 .1)))))
     (λ j lt. let m = g j lt in (m .0, (m .1 .0, sym (ap (λ (x : Rect). by rule x r c) (m .1 .1)))))
+
+-- a rule is another one with a test beside it
+pub taken-beside : (rule other : Rule) (beside : Bool) (rects : List ℕ) (r c : ℕ)
+    → ((left top right bottom : ℕ) → rule left top right bottom r c ≡ (other left top right bottom r c && beside))
+    → taken rule rects r c ≡ (taken other rects r c && beside)
+unfolding nth
+taken-beside rule other beside rects r c is =
+    same-test (taken rule rects r c) (taken other rects r c && beside)
+    (λ e. let f = taken-facts rule rects r c e in
+    let q = rectAtOf rects (f .0) in
+    let g = rw (is (q .left) (q .top) (q .right) (q .bottom)) at (f .1 .1) in
+    let o = other (q .left) (q .top) (q .right) (q .bottom) r c in
+    both (taken other rects r c) beside (taken-holds other rects r c (f .0) (f .1 .0) (both-left o beside g)) (both-right o beside g))
+    (λ e. let f = taken-facts other rects r c (both-left (taken other rects r c) beside e) in
+    let q = rectAtOf rects (f .0) in
+    taken-holds rule rects r c (f .0) (f .1 .0)
+    (rw (is (q .left) (q .top) (q .right) (q .bottom)) (both (other (q .left) (q .top) (q .right) (q .bottom) r c) beside (f .1 .1) (both-right (taken other rects r c) beside e))))
 
 -- ---- what a list leaves, whatever the rule and the source
 

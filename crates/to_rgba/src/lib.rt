@@ -88,7 +88,7 @@ fn put_rows(
 }
 
 // How far it is from a to b, or to n where that is nearer: 0 where it is not after a.
-fn clipped(a: u16, b: u16, n: u16) -> usize
+pub fn clipped(a: u16, b: u16, n: u16) -> usize
     ensures { λ r. ⌜ r ≡ clippedOf a b n ⌝ }
 {
     let from = a as usize;
