@@ -1,0 +1,2 @@
+-- The map of stale colour: its words.
+pub mod Map
