@@ -15,7 +15,11 @@
  *
  *   picture   width x height pixels in three planes y, u, v of `stride` x `rows` bytes each, where stride is the width and rows
  *             the height, both rounded up to 16. A call works these out itself. Bytes of a lent plane past stride x rows
- *             reach no answer and never change.
+ *             reach no answer and never change. It has a map.
+ *   map       of stale colour: one byte for each 2x2 block of the padded picture, row by row, stride/2 in a row and rows/2 rows.
+ *             0: the block never had a main view. 1: it had one, and no auxiliary view has completed it since. 2: complete, its
+ *             colour is whole. A call finds the map as the call before left it, for the same picture. A byte above 2 is not
+ *             refused; it counts as not complete, and an auxiliary view leaves it. Bytes past the map reach no answer and never change.
  *   view      a 4:2:0 picture: view_width x view_height luma samples, row r from r x luma_stride on, and in view_u and
  *             view_v half of both, rounded up, row r from r x chroma_stride on. Bytes between the width and the stride, and after
  *             the last row, reach no answer.
@@ -47,6 +51,13 @@
 #include <stdbool.h>
 #endif
 
+/* The version of this header and of the library that goes with it. 0.1 is what had no version: its pictures had no map. 0.2: a picture's
+ * map follows v in haythaw_new, haythaw_from_rgba, haythaw_from_rgba_rust, haythaw_to_rgba and the five apply calls, haythaw_pixels
+ * ends in `stale`, and there is haythaw_map_size. A program that was built for one of them does not work with the other. */
+#define HAYTHAW_VERSION_MAJOR 0
+#define HAYTHAW_VERSION_MINOR 2
+#define HAYTHAW_VERSION_PATCH 0
+
 #ifdef __cplusplus
 extern "C" {
 #endif
@@ -56,7 +67,7 @@ typedef char haythaw_size_t_has_64_bits[sizeof(size_t) == 8 ? 1 : -1];
 /* The numbers that a call may answer. Where several would be true, a call answers the first in the order beside its name. */
 enum haythaw_number {
     HAYTHAW_DONE = 0,          /* done */
-    HAYTHAW_PLANE_SHORT = 1,   /* a lent picture plane is shorter than stride x rows */
+    HAYTHAW_PLANE_SHORT = 1,   /* a lent picture plane is shorter than stride x rows, or a map than stride/2 x rows/2 */
     HAYTHAW_RGBA_SHORT = 2,    /* RGBA input is shorter than width x height x 4 */
     HAYTHAW_VIEW_NARROW = 3,   /* a view's luma stride is below its width, or its chroma stride below its chroma width */
     HAYTHAW_VIEW_SHORT = 4,    /* a view's plane is shorter than its stride x its plane height, however large that product */
@@ -76,13 +87,15 @@ typedef struct haythaw_answer {
     size_t count;
 } haythaw_answer;
 
-/* What picture to RGBA answers: a number, how many bytes were written, and how many samples of U and of V the reverse filter
- * replaced on their way to those bytes. A sample whose average was kept is not counted. In a refusal all three counts are 0. */
+/* What picture to RGBA answers: a number, how many bytes were written, how many samples of U and of V the reverse filter replaced on
+ * their way to those bytes, and how many of the pixels lie in blocks that the map does not call complete. A sample whose average was
+ * kept is not counted. In a refusal all four counts are 0. */
 typedef struct haythaw_pixels {
     uint32_t number;
     size_t count;
     size_t filtered_u;
     size_t filtered_v;
+    size_t stale;
 } haythaw_pixels;
 
 /* Where a row of a view is, in the caller's own plane: `length` bytes from `start` on. A row that the view does not have is no
@@ -156,87 +169,100 @@ typedef struct haythaw_pair {
 /* Bytes of a picture's three planes together, 3 x stride x rows. Never refuses. */
 size_t haythaw_allocation_size(uint16_t width, uint16_t height);
 
-/* A fresh picture: Y 0, U and V 128, padding too.
- * Answers 0 or 1. Writes the first stride x rows bytes of y, u and v; bytes after them stay. */
+/* Bytes of a picture's map, stride/2 x rows/2. Never refuses. */
+size_t haythaw_map_size(uint16_t width, uint16_t height);
+
+/* A fresh picture: Y 0, U and V 128, padding too, and a map of 0.
+ * Answers 0 or 1. Writes the first stride x rows bytes of y, u and v and the first stride/2 x rows/2 of map; bytes after them stay. */
 uint32_t haythaw_new(uint16_t width, uint16_t height, uint8_t *y, size_t y_count, uint8_t *u, size_t u_count,
-                     uint8_t *v, size_t v_count);
+                     uint8_t *v, size_t v_count, uint8_t *map, size_t map_count);
 
 /* The picture of width x height RGBA pixels: each converted, then the edge filled, then U and V of every 2x2 block's even-even
  * place replaced by the block's average. The edge is filled in y, u and v: the last picture column goes into the padding right of
  * it, then the last picture row, full by then, into the rows below. So each sample of the padding is the nearest one of the
  * picture before the averages, and those at the edge have no other colour in them. Where a side is 0 the planes have no bytes, and
- * none is written. Alpha, and input after width x height x 4 bytes, is ignored.
- * Answers 0, 2 or 1, in this order of refusals. Writes the first stride x rows bytes of y, u and v; bytes after them stay. */
+ * none is written. Alpha, and input after width x height x 4 bytes, is ignored. Its colour is whole: the map becomes 2.
+ * Answers 0, 2 or 1, in this order of refusals. Writes the first stride x rows bytes of y, u and v and the first stride/2 x rows/2 of
+ * map; bytes after them stay. */
 uint32_t haythaw_from_rgba(const uint8_t *rgba, size_t rgba_count, uint16_t width, uint16_t height,
-                           uint8_t *y, size_t y_count, uint8_t *u, size_t u_count, uint8_t *v, size_t v_count);
+                           uint8_t *y, size_t y_count, uint8_t *u, size_t u_count, uint8_t *v, size_t v_count,
+                           uint8_t *map, size_t map_count);
 
 /* The same as the Rust original has it: the edge is not filled, and padding as in a fresh picture (Y 0, U and V 128) enters the
  * last averages: those of the last column where the width is odd, and of the last row where the height is. Both calls agree where
  * both sides are multiples of 16.
- * Answers 0, 2 or 1, in this order of refusals. Writes the first stride x rows bytes of y, u and v; bytes after them stay. */
+ * Answers 0, 2 or 1, in this order of refusals. Writes what haythaw_from_rgba writes. */
 uint32_t haythaw_from_rgba_rust(const uint8_t *rgba, size_t rgba_count, uint16_t width, uint16_t height,
-                                uint8_t *y, size_t y_count, uint8_t *u, size_t u_count, uint8_t *v, size_t v_count);
+                                uint8_t *y, size_t y_count, uint8_t *u, size_t u_count, uint8_t *v, size_t v_count,
+                                uint8_t *map, size_t map_count);
 
 /* The rectangle's pixels as RGBA, alpha 255. The rectangle is clipped to the picture; an empty one writes nothing, with number 0
  * and all counts 0. At pixels of even row and even column of the picture U and V go through the reverse filter on their way, which
  * keeps a block's average or replaces it; the planes keep their averages. filtered_u and filtered_v say at how many pixels of the
- * clipped rectangle it replaced U, and at how many V: at most one in each 2x2 block.
+ * clipped rectangle it replaced U, and at how many V: at most one in each 2x2 block. stale says how many of its pixels lie in blocks
+ * whose byte of the map is not 2, and whose colour may be half old; the map is only read, and changes no pixel.
  * Answers 0, 1 or 6, in this order of refusals; the count is 4 x the clipped pixels. Writes the first count bytes of out; bytes
  * after them stay. */
 haythaw_pixels haythaw_to_rgba(uint16_t width, uint16_t height, const uint8_t *y, size_t y_count,
                                const uint8_t *u, size_t u_count, const uint8_t *v, size_t v_count,
-                               uint16_t left, uint16_t top, uint16_t right, uint16_t bottom, uint8_t *out, size_t out_count);
+                               const uint8_t *map, size_t map_count, uint16_t left, uint16_t top, uint16_t right, uint16_t bottom,
+                               uint8_t *out, size_t out_count);
 
-/* ---- Views into a picture, within a list of rectangles ----
+/* ---- Views into a picture and its map, within a list of rectangles ----
  *
  * All five answer 0, 1, 7, 3 or 4, in this order of refusals, and take what a view has: a sample that it lacks leaves the
  * picture's as it was, and U and V of a place are taken together or not at all. The order of the list has no effect. An empty
- * list changes nothing. */
+ * list changes nothing.
+ *
+ * The map: a main view sets 1 where it takes any chroma of a block, also over 2. An auxiliary view turns 1 into 2 where it takes all
+ * three of the block's other places, in this one call; it leaves a 0, which has had no main view, and everything else. So after the
+ * main view and the auxiliary view of one picture, over one list, every block of a widened rectangle is 2. */
 
 /* The main view: Y within the rectangles, in rows of the picture and columns below the widened right edge; U and V within the
  * widened rectangles, each chroma sample at the places of its block that are below view_height and view_width. Every other
  * byte of y, u and v stays. */
 uint32_t haythaw_apply_main_view(uint16_t width, uint16_t height, uint8_t *y, size_t y_count, uint8_t *u, size_t u_count,
-                                 uint8_t *v, size_t v_count, const uint16_t *rects, size_t rects_count,
-                                 uint16_t view_width, uint16_t view_height, size_t luma_stride, size_t chroma_stride,
-                                 const uint8_t *view_y, size_t view_y_count, const uint8_t *view_u, size_t view_u_count,
-                                 const uint8_t *view_v, size_t view_v_count);
+                                 uint8_t *v, size_t v_count, uint8_t *map, size_t map_count,
+                                 const uint16_t *rects, size_t rects_count, uint16_t view_width, uint16_t view_height,
+                                 size_t luma_stride, size_t chroma_stride, const uint8_t *view_y, size_t view_y_count,
+                                 const uint8_t *view_u, size_t view_u_count, const uint8_t *view_v, size_t view_v_count);
 
 /* The auxiliary view of AVC444 (V1): within the widened rectangles, U and V at the three places of each block that the main
  * view has no sample of its own for. y is lent and never written; every other byte of u and v stays. */
 uint32_t haythaw_apply_auxiliary_v1(uint16_t width, uint16_t height, uint8_t *y, size_t y_count, uint8_t *u, size_t u_count,
-                                    uint8_t *v, size_t v_count, const uint16_t *rects, size_t rects_count,
-                                    uint16_t view_width, uint16_t view_height, size_t luma_stride, size_t chroma_stride,
-                                    const uint8_t *view_y, size_t view_y_count, const uint8_t *view_u, size_t view_u_count,
-                                    const uint8_t *view_v, size_t view_v_count);
+                                    uint8_t *v, size_t v_count, uint8_t *map, size_t map_count,
+                                    const uint16_t *rects, size_t rects_count, uint16_t view_width, uint16_t view_height,
+                                    size_t luma_stride, size_t chroma_stride, const uint8_t *view_y, size_t view_y_count,
+                                    const uint8_t *view_u, size_t view_u_count, const uint8_t *view_v, size_t view_v_count);
 
 /* The auxiliary view of AVC444v2 (V2): the same places, kept elsewhere in the view: V stands W/2 columns after U in its luma, and
  * W/4 columns after U in its chroma. W is view_width rounded up to 16 (the 16 rule). y is lent and never written; every other
  * byte of u and v stays. */
 uint32_t haythaw_apply_auxiliary_v2(uint16_t width, uint16_t height, uint8_t *y, size_t y_count, uint8_t *u, size_t u_count,
-                                    uint8_t *v, size_t v_count, const uint16_t *rects, size_t rects_count,
-                                    uint16_t view_width, uint16_t view_height, size_t luma_stride, size_t chroma_stride,
-                                    const uint8_t *view_y, size_t view_y_count, const uint8_t *view_u, size_t view_u_count,
-                                    const uint8_t *view_v, size_t view_v_count);
+                                    uint8_t *v, size_t v_count, uint8_t *map, size_t map_count,
+                                    const uint16_t *rects, size_t rects_count, uint16_t view_width, uint16_t view_height,
+                                    size_t luma_stride, size_t chroma_stride, const uint8_t *view_y, size_t view_y_count,
+                                    const uint8_t *view_u, size_t view_u_count, const uint8_t *view_v, size_t view_v_count);
 
 /* The same by the 32 rule, for servers that round the width of their surface up to 32: W is the picture's width rounded up to 32,
  * and view_width says only which samples the view has. W may be 65,536 here. At a width of 48, W is 64: of a view that is 64 wide
  * all is taken, and of one that is 48 wide the odd columns 1 to 31 and, in odd rows, the even columns 0 to 30. */
 uint32_t haythaw_apply_auxiliary_v2_32(uint16_t width, uint16_t height, uint8_t *y, size_t y_count, uint8_t *u, size_t u_count,
-                                       uint8_t *v, size_t v_count, const uint16_t *rects, size_t rects_count,
-                                       uint16_t view_width, uint16_t view_height, size_t luma_stride, size_t chroma_stride,
-                                       const uint8_t *view_y, size_t view_y_count, const uint8_t *view_u, size_t view_u_count,
-                                       const uint8_t *view_v, size_t view_v_count);
+                                       uint8_t *v, size_t v_count, uint8_t *map, size_t map_count,
+                                       const uint16_t *rects, size_t rects_count, uint16_t view_width, uint16_t view_height,
+                                       size_t luma_stride, size_t chroma_stride, const uint8_t *view_y, size_t view_y_count,
+                                       const uint8_t *view_u, size_t view_u_count, const uint8_t *view_v, size_t view_v_count);
 
 /* The same by the rule Exact, for servers that do not round, as FreeRDP's: W is the picture's width, and view_width says only which
  * samples the view has. Halves and quarters of W are rounded down: at a width of 66, V stands 33 columns after U in luma and 16
  * after it in chroma. Where the width is no multiple of 4, two samples share a place of the view, whichever of them the server
  * wrote there; so there is no split by this rule. Where the width is a multiple of 16 it is what the 16 rule is of a view that wide. */
-uint32_t haythaw_apply_auxiliary_v2_exact(uint16_t width, uint16_t height, uint8_t *y, size_t y_count, uint8_t *u, size_t u_count,
-                                          uint8_t *v, size_t v_count, const uint16_t *rects, size_t rects_count,
-                                          uint16_t view_width, uint16_t view_height, size_t luma_stride, size_t chroma_stride,
-                                          const uint8_t *view_y, size_t view_y_count, const uint8_t *view_u,
-                                          size_t view_u_count, const uint8_t *view_v, size_t view_v_count);
+uint32_t haythaw_apply_auxiliary_v2_exact(uint16_t width, uint16_t height, uint8_t *y, size_t y_count,
+                                          uint8_t *u, size_t u_count, uint8_t *v, size_t v_count, uint8_t *map, size_t map_count,
+                                          const uint16_t *rects, size_t rects_count, uint16_t view_width, uint16_t view_height,
+                                          size_t luma_stride, size_t chroma_stride, const uint8_t *view_y, size_t view_y_count,
+                                          const uint8_t *view_u, size_t view_u_count,
+                                          const uint8_t *view_v, size_t view_v_count);
 
 /* ---- A picture into its two views ----
  *

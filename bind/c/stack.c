@@ -35,9 +35,9 @@ ALONE(do_aux_v1, haythaw_apply_auxiliary_v1(PICTURE, LENT(RECTS), A_VIEW))
 ALONE(do_aux_v2, haythaw_apply_auxiliary_v2(PICTURE, LENT(RECTS), A_VIEW))
 ALONE(do_aux_v2_32, haythaw_apply_auxiliary_v2_32(PICTURE, LENT(RECTS), A_VIEW))
 ALONE(do_aux_v2_exact, haythaw_apply_auxiliary_v2_exact(PICTURE, LENT(RECTS), A_VIEW))
-ALONE(do_split_v1, haythaw_split_v1(PICTURE, BOTH_VIEWS))
-ALONE(do_split_v2, haythaw_split_v2(PICTURE, BOTH_VIEWS))
-ALONE(do_split_v2_32, haythaw_split_v2_32(PICTURE, BOTH_VIEWS))
+ALONE(do_split_v1, haythaw_split_v1(PLANES_ALONE, BOTH_VIEWS))
+ALONE(do_split_v2, haythaw_split_v2(PLANES_ALONE, BOTH_VIEWS))
+ALONE(do_split_v2_32, haythaw_split_v2_32(PLANES_ALONE, BOTH_VIEWS))
 ALONE(do_view, haythaw_view(A_VIEW))
 ALONE(do_luma_row, haythaw_luma_row(A_VIEW, a->row))
 ALONE(do_u_row, haythaw_u_row(A_VIEW, a->row))
@@ -54,11 +54,12 @@ ALONE(do_luma_rects, haythaw_avc444_luma_rects(LENT(PAYLOAD), LENT(NUMBERS)))
 ALONE(do_chroma_rects, haythaw_avc444_chroma_rects(LENT(PAYLOAD), LENT(NUMBERS)))
 ALONE(do_write, haythaw_avc444_write(a->kind, BOTH_STREAMS, LENT(OUT)))
 ALONE(do_allocation_size, haythaw_allocation_size(a->width, a->height))
+ALONE(do_map_size, haythaw_map_size(a->width, a->height))
 
-static void (*const alone[CALLS + 1])(const Args *) = {
+static void (*const alone[CALLS + 2])(const Args *) = {
     do_new, do_from_rgba, do_from_rgba_rust, do_to_rgba, do_main, do_aux_v1, do_aux_v2, do_aux_v2_32, do_aux_v2_exact, do_split_v1,
     do_split_v2, do_split_v2_32, do_view, do_luma_row, do_u_row, do_v_row, do_view_to_rgba, do_is_avc, do_annex_b, do_read, do_luma_rectangle,
-    do_chroma_rectangle, do_luma_pair, do_chroma_pair, do_luma_rects, do_chroma_rects, do_write, do_allocation_size};
+    do_chroma_rectangle, do_luma_pair, do_chroma_pair, do_luma_rects, do_chroma_rects, do_write, do_allocation_size, do_map_size};
 
 static void on_its_own_stack(void)
 {
@@ -123,7 +124,7 @@ int main(void)
 {
     const Args tiny = of_size(2, 2), large = of_size(1920, 1080);
     printf("%-24s %10s %10s\n", "call, bytes", "2x2", "1920x1080");
-    for (int call = 0; call <= CALLS; call++) {
+    for (int call = 0; call <= CALLS + 1; call++) {
         const Args *const sizes[2] = {&tiny, &large};
         size_t most[2];
         for (int k = 0; k < 2; k++) {
@@ -132,7 +133,7 @@ int main(void)
             const size_t one = depth((enum call)call, sizes[k], 0xA5), two = depth((enum call)call, sizes[k], 0x3C);
             most[k] = one > two ? one : two;
         }
-        printf("%-24s %10zu %10zu\n", call < CALLS ? call_names[call] : "allocation_size", most[0], most[1]);
+        printf("%-24s %10zu %10zu\n", call < CALLS ? call_names[call] : call == CALLS ? "allocation_size" : "map_size", most[0], most[1]);
     }
     return 0;
 }

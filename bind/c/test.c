@@ -8,6 +8,7 @@
 #include "test/edges.h"
 #include "test/far.h"
 #include "test/lengths.h"
+#include "test/map.h"
 #include "test/off.h"
 #include "test/results.h"
 #include "test/sizes.h"
@@ -21,7 +22,7 @@ static const struct { enum call split, auxiliary; size_t wide; const char *name;
     {SPLIT_V2_32, AUX_V2_32, 64, "V2 by the 32 rule there and back"}};
 
 /* A picture of noise is split each way and applied, main then auxiliary, over a rectangle with an odd left edge to a copy of an
- * earlier picture: its luma inside the rectangle, its chroma in the widened one, and nothing else. */
+ * earlier picture: its luma inside the rectangle, its chroma in the widened one, and nothing else; of the map, the widened one is complete. */
 static void each_layout(void)
 {
     enum { WIDTH = 37, HEIGHT = 19, STRIDE = 48, ROWS = 32, PLANE = STRIDE * ROWS };
@@ -36,6 +37,7 @@ static void each_layout(void)
         Result r = tried(layouts[layout].split, &from);
         check(r.number == 0 && r.width == layouts[layout].wide, call_names[layouts[layout].split], "the number and the width");
         picture(&to, WIDTH, HEIGHT, PLANE);
+        memset(to.at[MAP], 0, PLANE / 4);
         to.view_width = r.width, to.view_height = r.height, to.luma_stride = r.luma_stride, to.chroma_stride = r.chroma_stride;
         to.at[RECTS] = lend(8);
         to.count[RECTS] = 4;
@@ -60,6 +62,11 @@ static void each_layout(void)
                 right[s] = right[s] && now[k] == (within(s == Y ? luma : chroma, k / STRIDE, k % STRIDE) ? source : before)[k];
             check(right[s], layouts[layout].name, slice_names[s]);
         }
+        const uint8_t *map = to.at[MAP];
+        bool complete = true;
+        for (size_t k = 0; k < PLANE / 4; k++)
+            complete = complete && map[k] == (within(chroma, k / (STRIDE / 2) * 2, k % (STRIDE / 2) * 2) ? 2 : 0);
+        check(complete, layouts[layout].name, "the map");
         over(MAIN);
     }
 }
@@ -95,6 +102,12 @@ int main(int words, char **word)
         filter_by_hand();
         filtered_by_hand();
         rectangles_by_hand();
+        map_sizes_by_hand();
+        made_maps_by_hand();
+        markings_by_hand();
+        two_rectangles_by_hand();
+        stale_by_hand();
+        short_maps_by_hand();
         cropped_by_hand();
         split_by_hand();
         split_at_its_limit();

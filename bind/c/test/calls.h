@@ -20,11 +20,12 @@ static const char *const call_names[CALLS] = {
  * that a payload is written from. */
 enum slice {
     Y, U, V, RGBA, RECTS, VIEW_Y, VIEW_U, VIEW_V, OUT, DATA, MAIN_Y, MAIN_U, MAIN_V, AUX_Y, AUX_U, AUX_V, PAYLOAD, NUMBERS,
-    L_RECTS, L_PAIRS, L_DATA, C_RECTS, C_PAIRS, C_DATA, SLICES
+    L_RECTS, L_PAIRS, L_DATA, C_RECTS, C_PAIRS, C_DATA, MAP, SLICES
 };
 static const char *const slice_names[SLICES] = {"y", "u", "v", "rgba", "rects", "view_y", "view_u", "view_v", "out", "data",
                                                 "main_y", "main_u", "main_v", "aux_y", "aux_u", "aux_v", "payload", "out",
-                                                "luma_rects", "luma_pairs", "luma_data", "chroma_rects", "chroma_pairs", "chroma_data"};
+                                                "luma_rects", "luma_pairs", "luma_data", "chroma_rects", "chroma_pairs", "chroma_data",
+                                                "map"};
 
 typedef struct {
     uint16_t width, height;                 /* of the picture */
@@ -42,7 +43,7 @@ typedef struct {
     uint32_t number;
     bool present, yes;
     uint16_t width, height;
-    size_t count, filtered_u, filtered_v, start, length, luma_stride, chroma_stride;
+    size_t count, filtered_u, filtered_v, stale, start, length, luma_stride, chroma_stride;
     uint32_t kind;
     haythaw_stream luma, chroma;
     uint16_t left, top, right, bottom;
@@ -51,7 +52,8 @@ typedef struct {
 } Result;
 
 #define LENT(slice) a->at[slice], a->count[slice]
-#define PICTURE a->width, a->height, LENT(Y), LENT(U), LENT(V)
+#define PLANES_ALONE a->width, a->height, LENT(Y), LENT(U), LENT(V)
+#define PICTURE PLANES_ALONE, LENT(MAP)
 #define A_VIEW \
     a->view_width, a->view_height, a->luma_stride, a->chroma_stride, LENT(VIEW_Y), LENT(VIEW_U), LENT(VIEW_V)
 #define BOTH_STREAMS LENT(L_RECTS), LENT(L_PAIRS), LENT(L_DATA), LENT(C_RECTS), LENT(C_PAIRS), LENT(C_DATA)
@@ -77,6 +79,7 @@ static Result of_pixels(haythaw_pixels pixels)
     r.count = pixels.count;
     r.filtered_u = pixels.filtered_u;
     r.filtered_v = pixels.filtered_v;
+    r.stale = pixels.stale;
     return r;
 }
 
@@ -149,9 +152,9 @@ static Result run(enum call call, const Args *a)
     case AUX_V2: return of_number(haythaw_apply_auxiliary_v2(PICTURE, LENT(RECTS), A_VIEW));
     case AUX_V2_32: return of_number(haythaw_apply_auxiliary_v2_32(PICTURE, LENT(RECTS), A_VIEW));
     case AUX_V2_EXACT: return of_number(haythaw_apply_auxiliary_v2_exact(PICTURE, LENT(RECTS), A_VIEW));
-    case SPLIT_V1: return of_views(haythaw_split_v1(PICTURE, BOTH_VIEWS));
-    case SPLIT_V2: return of_views(haythaw_split_v2(PICTURE, BOTH_VIEWS));
-    case SPLIT_V2_32: return of_views(haythaw_split_v2_32(PICTURE, BOTH_VIEWS));
+    case SPLIT_V1: return of_views(haythaw_split_v1(PLANES_ALONE, BOTH_VIEWS));
+    case SPLIT_V2: return of_views(haythaw_split_v2(PLANES_ALONE, BOTH_VIEWS));
+    case SPLIT_V2_32: return of_views(haythaw_split_v2_32(PLANES_ALONE, BOTH_VIEWS));
     case VIEW: return of_number(haythaw_view(A_VIEW));
     case LUMA_ROW: return of_row(haythaw_luma_row(A_VIEW, a->row));
     case U_ROW: return of_row(haythaw_u_row(A_VIEW, a->row));

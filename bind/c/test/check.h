@@ -56,7 +56,7 @@ static bool same_stream(const haythaw_stream *a, const haythaw_stream *b)
 static bool is_refusal(const Result *r, uint32_t number)
 {
     static const haythaw_stream none;
-    return r->number == number && !r->present && !r->yes && r->count == 0 && r->filtered_u == 0 && r->filtered_v == 0 && r->start == 0 &&
+    return r->number == number && !r->present && !r->yes && r->count == 0 && r->filtered_u == 0 && r->filtered_v == 0 && r->stale == 0 && r->start == 0 &&
            r->length == 0 && r->width == 0 && r->height == 0 && r->luma_stride == 0 && r->chroma_stride == 0 && r->kind == 0 &&
            same_stream(&r->luma, &none) && same_stream(&r->chroma, &none) && r->left == 0 && r->top == 0 && r->right == 0 &&
            r->bottom == 0 && r->value == 0 && r->quality == 0 && !r->reserved && !r->progressive;
@@ -81,6 +81,7 @@ static size_t element(enum slice slice)
     return slice == RECTS || slice == NUMBERS || slice == L_RECTS || slice == C_RECTS ? 2 : 1;
 }
 
+/* A picture whose planes have so many bytes, and whose map a quarter of them. */
 static void picture(Args *a, uint16_t width, uint16_t height, size_t plane)
 {
     a->width = width;
@@ -89,6 +90,8 @@ static void picture(Args *a, uint16_t width, uint16_t height, size_t plane)
         a->at[s] = lend(plane);
         a->count[s] = plane;
     }
+    a->at[MAP] = lend(plane / 4);
+    a->count[MAP] = plane / 4;
 }
 
 static void lend_as(Args *a, enum slice slice, size_t count, const uint8_t *bytes)

@@ -6,7 +6,7 @@
 
 /* What a call needs in the case below, in its order of refusals: the exact count of each slice, and its number one short and empty.
  *
- * The picture is 17x3: stride 32, rows 16, planes of 512 bytes, 17 x 3 x 4 = 204 bytes of RGBA, chroma of its views 16 x 8. The
+ * The picture is 17x3: stride 32, rows 16, planes of 512 bytes, a map of 16 x 8, 17 x 3 x 4 = 204 bytes of RGBA, chroma of its views 16 x 8. The
  * rectangle of to_rgba is (1, 1, 17, 3): 16 x 2 x 4 = 128. The view is 5x3 with strides 7 and 4: 7 x 3, 4 x 2, RGBA 5 x 3 x 4. */
 typedef struct {
     enum slice slice;
@@ -15,6 +15,7 @@ typedef struct {
 } Need;
 
 #define PLANES {Y, 512, 1, 1}, {U, 512, 1, 1}, {V, 512, 1, 1}
+#define THE_PICTURE PLANES, {MAP, 128, 1, 1}
 #define THE_VIEW {VIEW_Y, 21, 4, 4}, {VIEW_U, 8, 4, 4}, {VIEW_V, 8, 4, 4}
 #define THE_VIEWS {MAIN_Y, 512, 6, 6}, {MAIN_U, 128, 6, 6}, {MAIN_V, 128, 6, 6}, {AUX_Y, 512, 6, 6}, {AUX_U, 128, 6, 6}, {AUX_V, 128, 6, 6}
 
@@ -23,15 +24,15 @@ typedef struct {
 static const uint8_t the_payload[46] = {17, 0, 0, 0, 1, 0, 0, 0, 1, 0, 2, 0, 3, 0, 4, 0, 5, 6, 7, 8, 9, 2, 0, 0, 0};
 
 static const struct { size_t used; Need needs[9]; } needs[CALLS] = {
-    [NEW] = {3, {PLANES}},
-    [FROM_RGBA] = {4, {{RGBA, 204, 2, 2}, PLANES}},
-    [FROM_RGBA_RUST] = {4, {{RGBA, 204, 2, 2}, PLANES}},
-    [TO_RGBA] = {4, {PLANES, {OUT, 128, 6, 6}}},
-    [MAIN] = {7, {PLANES, {RECTS, 4, 7, 0}, THE_VIEW}},
-    [AUX_V1] = {7, {PLANES, {RECTS, 4, 7, 0}, THE_VIEW}},
-    [AUX_V2] = {7, {PLANES, {RECTS, 4, 7, 0}, THE_VIEW}},
-    [AUX_V2_32] = {7, {PLANES, {RECTS, 4, 7, 0}, THE_VIEW}},
-    [AUX_V2_EXACT] = {7, {PLANES, {RECTS, 4, 7, 0}, THE_VIEW}},
+    [NEW] = {4, {THE_PICTURE}},
+    [FROM_RGBA] = {5, {{RGBA, 204, 2, 2}, THE_PICTURE}},
+    [FROM_RGBA_RUST] = {5, {{RGBA, 204, 2, 2}, THE_PICTURE}},
+    [TO_RGBA] = {5, {THE_PICTURE, {OUT, 128, 6, 6}}},
+    [MAIN] = {8, {THE_PICTURE, {RECTS, 4, 7, 0}, THE_VIEW}},
+    [AUX_V1] = {8, {THE_PICTURE, {RECTS, 4, 7, 0}, THE_VIEW}},
+    [AUX_V2] = {8, {THE_PICTURE, {RECTS, 4, 7, 0}, THE_VIEW}},
+    [AUX_V2_32] = {8, {THE_PICTURE, {RECTS, 4, 7, 0}, THE_VIEW}},
+    [AUX_V2_EXACT] = {8, {THE_PICTURE, {RECTS, 4, 7, 0}, THE_VIEW}},
     [SPLIT_V1] = {9, {PLANES, THE_VIEWS}},
     [SPLIT_V2] = {9, {PLANES, THE_VIEWS}},
     [SPLIT_V2_32] = {9, {PLANES, THE_VIEWS}},

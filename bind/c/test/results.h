@@ -86,50 +86,61 @@ static void result_of_write(void)
 /* A picture of 2 by 1 with planes of 256 bytes. */
 static void result_of_picture(void)
 {
-    static uint8_t y[256], u[256], v[256];
+    static uint8_t y[256], u[256], v[256], map[64];
     check(haythaw_allocation_size(65535, 65535) == (size_t)3 << 32, "allocation_size", "a size");
+    check(haythaw_map_size(65535, 65535) == (size_t)1 << 30, "map_size", "a size");
 
     memset(y, 1, 256);
-    check(haythaw_new(2, 1, y, 256, u, 256, v, 255) == HAYTHAW_PLANE_SHORT && y[0] == 1 && u[0] == 0, "new", "a refusal");
-    check(haythaw_new(2, 1, y, 256, u, 256, v, 256) == HAYTHAW_DONE && y[0] == 0 && u[255] == 128 && v[0] == 128, "new", "a picture");
+    memset(map, 1, 64);
+    check(haythaw_new(2, 1, y, 256, u, 256, v, 255, map, 64) == HAYTHAW_PLANE_SHORT && y[0] == 1 && u[0] == 0, "new", "a refusal");
+    check(haythaw_new(2, 1, y, 256, u, 256, v, 256, map, 63) == HAYTHAW_PLANE_SHORT && y[0] == 1 && map[0] == 1, "new", "a short map");
+    check(haythaw_new(2, 1, y, 256, u, 256, v, 256, map, 64) == HAYTHAW_DONE && map[0] == 0 && map[63] == 0 && y[0] == 0 && u[255] == 128 && v[0] == 128, "new", "a picture");
 
     /* Red and green, and in the rows below the same again: U (99 + 29 + 99 + 29 + 2)/4 = 64, V (255 + 12 + 255 + 12 + 2)/4 = 134. */
     const uint8_t rgba[8] = {255, 0, 0, 255, 0, 255, 0, 255};
-    check(haythaw_from_rgba(rgba, 7, 2, 1, y, 256, u, 256, v, 256) == HAYTHAW_RGBA_SHORT, "from_rgba", "a refusal");
-    check(haythaw_from_rgba(rgba, 8, 2, 1, y, 256, u, 256, v, 256) == HAYTHAW_DONE, "from_rgba", "a number");
+    check(haythaw_from_rgba(rgba, 7, 2, 1, y, 256, u, 256, v, 256, map, 64) == HAYTHAW_RGBA_SHORT, "from_rgba", "a refusal");
+    check(haythaw_from_rgba(rgba, 8, 2, 1, y, 256, u, 256, v, 256, map, 64) == HAYTHAW_DONE, "from_rgba", "a number");
     check(y[0] == 53 && y[1] == 182 && u[0] == 64 && u[1] == 29 && v[0] == 134 && v[1] == 12, "from_rgba", "a picture");
     check(y[16] == 53 && u[16] == 99 && v[16] == 255 && y[255] == 182 && u[255] == 29 && v[255] == 12, "from_rgba", "its edge");
+    check(map[0] == 2 && map[63] == 2, "from_rgba", "its map");
+    map[0] = 1;
 
     /* Or 128 in the row below: U (99 + 29 + 128 + 128 + 2)/4 = 96, V (255 + 12 + 128 + 128 + 2)/4 = 131. */
-    check(haythaw_from_rgba_rust(rgba, 7, 2, 1, y, 256, u, 256, v, 256) == HAYTHAW_RGBA_SHORT, "from_rgba_rust", "a refusal");
-    check(haythaw_from_rgba_rust(rgba, 8, 2, 1, y, 256, u, 256, v, 256) == HAYTHAW_DONE, "from_rgba_rust", "a number");
+    check(haythaw_from_rgba_rust(rgba, 7, 2, 1, y, 256, u, 256, v, 256, map, 64) == HAYTHAW_RGBA_SHORT, "from_rgba_rust", "a refusal");
+    check(haythaw_from_rgba_rust(rgba, 8, 2, 1, y, 256, u, 256, v, 256, map, 64) == HAYTHAW_DONE, "from_rgba_rust", "a number");
     check(y[0] == 53 && y[1] == 182 && u[0] == 96 && u[1] == 29 && v[0] == 131 && v[1] == 12, "from_rgba_rust", "a picture");
     check(y[16] == 0 && u[16] == 128 && v[16] == 128 && y[255] == 0 && u[255] == 128 && v[255] == 128, "from_rgba_rust", "its edge");
 
     uint8_t out[8] = {0};
     const uint8_t pixels[8] = {252, 0, 0, 255, 0, 254, 0, 255};
-    haythaw_pixels shown = haythaw_to_rgba(2, 1, y, 256, u, 256, v, 256, 0, 0, 9, 9, out, 7);
+    haythaw_pixels shown = haythaw_to_rgba(2, 1, y, 256, u, 256, v, 256, map, 64, 0, 0, 9, 9, out, 7);
     check(shown.number == HAYTHAW_OUTPUT_SHORT && shown.count == 0, "to_rgba", "a refusal");
-    check(shown.filtered_u == 0 && shown.filtered_v == 0, "to_rgba", "nothing filtered in a refusal");
-    shown = haythaw_to_rgba(2, 1, y, 256, u, 256, v, 256, 0, 0, 9, 9, out, 8);
+    check(shown.filtered_u == 0 && shown.filtered_v == 0 && shown.stale == 0, "to_rgba", "nothing counted in a refusal");
+    shown = haythaw_to_rgba(2, 1, y, 256, u, 256, v, 256, map, 64, 0, 0, 9, 9, out, 8);
     check(shown.number == HAYTHAW_DONE && shown.count == 8 && memcmp(out, pixels, 8) == 0, "to_rgba", "an answer");
 
     /* U: 4 x 96 - (29 + 128 + 128) = 99, so 96 is kept; V: 4 x 131 - (12 + 128 + 128) = 256, so 131 becomes 255. */
-    check(shown.filtered_u == 0 && shown.filtered_v == 1, "to_rgba", "what was filtered");
+    check(shown.filtered_u == 0 && shown.filtered_v == 1 && shown.stale == 0, "to_rgba", "what was filtered");
+
+    /* Both pixels lie in the first block. */
+    map[0] = 1;
+    shown = haythaw_to_rgba(2, 1, y, 256, u, 256, v, 256, map, 64, 0, 0, 9, 9, out, 8);
+    check(shown.number == HAYTHAW_DONE && shown.filtered_v == 1 && shown.stale == 2, "to_rgba", "what is stale");
 }
 
 /* A view of 1 by 1 goes into a picture of 2 by 1, and to RGBA. */
 static void result_of_main_view(void)
 {
-    static uint8_t y[256], u[256], v[256];
+    static uint8_t y[256], u[256], v[256], map[64];
     const uint8_t view_y[1] = {53}, view_u[1] = {99}, view_v[1] = {255}, pixel[4] = {252, 0, 0, 255};
     const uint16_t rects[4] = {0, 0, 2, 1};
-    check(haythaw_apply_main_view(2, 1, y, 256, u, 256, v, 256, rects, 3, 1, 1, 1, 1, view_y, 1, view_u, 1, view_v, 1) ==
+    check(haythaw_apply_main_view(2, 1, y, 256, u, 256, v, 256, map, 64, rects, 3, 1, 1, 1, 1, view_y, 1, view_u, 1, view_v, 1) ==
               HAYTHAW_LIST_UNEVEN,
           "apply_main_view", "a refusal");
-    check(haythaw_apply_main_view(2, 1, y, 256, u, 256, v, 256, rects, 4, 1, 1, 1, 1, view_y, 1, view_u, 1, view_v, 1) == HAYTHAW_DONE,
+    check(haythaw_apply_main_view(2, 1, y, 256, u, 256, v, 256, map, 64, rects, 4, 1, 1, 1, 1, view_y, 1, view_u, 1, view_v, 1) == HAYTHAW_DONE,
           "apply_main_view", "a number");
     check(y[0] == 53 && y[1] == 0 && u[0] == 99 && u[1] == 0 && u[16] == 0 && v[0] == 255, "apply_main_view", "a picture");
+    check(map[0] == 1 && map[1] == 0, "apply_main_view", "a map");
 
     uint8_t out[4] = {0};
     haythaw_answer answer = haythaw_view_to_rgba(1, 1, 1, 1, view_y, 1, view_u, 1, view_v, 1, out, 4);
@@ -139,55 +150,64 @@ static void result_of_main_view(void)
 /* Views in which U of an odd column, V of an odd column and so on are each a number of their own go into a picture of 2 by 2. */
 static void result_of_auxiliary_views(void)
 {
-    static uint8_t y[256], u[256], v[256];
+    static uint8_t y[256], u[256], v[256], map[64];
     const uint16_t rects[4] = {0, 0, 2, 2};
+    memset(map, 1, 64);
 
     /* V1: the odd row comes from luma rows 0 and 8 of a view of 2 by 9. */
     uint8_t rows[18] = {11, 12};
     rows[16] = 21;
     rows[17] = 22;
     const uint8_t odd_u[5] = {13}, odd_v[5] = {23};
-    check(haythaw_apply_auxiliary_v1(2, 2, y, 256, u, 256, v, 255, rects, 4, 2, 9, 2, 1, rows, 18, odd_u, 5, odd_v, 5) ==
+    check(haythaw_apply_auxiliary_v1(2, 2, y, 256, u, 256, v, 255, map, 64, rects, 4, 2, 9, 2, 1, rows, 18, odd_u, 5, odd_v, 5) ==
               HAYTHAW_PLANE_SHORT,
           "apply_auxiliary_v1", "a refusal");
-    check(haythaw_apply_auxiliary_v1(2, 2, y, 256, u, 256, v, 256, rects, 4, 2, 9, 2, 1, rows, 18, odd_u, 5, odd_v, 5) == HAYTHAW_DONE,
+    check(haythaw_apply_auxiliary_v1(2, 2, y, 256, u, 256, v, 256, map, 64, rects, 4, 2, 9, 2, 1, rows, 18, odd_u, 5, odd_v, 5) == HAYTHAW_DONE,
           "apply_auxiliary_v1", "a number");
     check(u[0] == 0 && u[1] == 13 && u[16] == 11 && u[17] == 12 && u[18] == 0, "apply_auxiliary_v1", "U");
     check(v[0] == 0 && v[1] == 23 && v[16] == 21 && v[17] == 22 && v[18] == 0, "apply_auxiliary_v1", "V");
+    check(map[0] == 2 && map[1] == 1, "apply_auxiliary_v1", "a map");
+    map[0] = 1;
 
     /* V2: in a view of 9 by 2, which counts as 16 wide, V stands 8 columns after U in luma and 4 in chroma. */
     const uint8_t columns[18] = {31, 0, 0, 0, 0, 0, 0, 0, 41, 32, 0, 0, 0, 0, 0, 0, 0, 42};
     const uint8_t fourths_u[5] = {33, 0, 0, 0, 43}, fourths_v[5] = {0};
-    check(haythaw_apply_auxiliary_v2(2, 2, y, 256, u, 256, v, 256, rects, 4, 9, 2, 9, 5, columns, 18, fourths_u, 4, fourths_v, 5) ==
+    check(haythaw_apply_auxiliary_v2(2, 2, y, 256, u, 256, v, 256, map, 64, rects, 4, 9, 2, 9, 5, columns, 18, fourths_u, 4, fourths_v, 5) ==
               HAYTHAW_VIEW_SHORT,
           "apply_auxiliary_v2", "a refusal");
-    check(haythaw_apply_auxiliary_v2(2, 2, y, 256, u, 256, v, 256, rects, 4, 9, 2, 9, 5, columns, 18, fourths_u, 5, fourths_v, 5) ==
+    check(haythaw_apply_auxiliary_v2(2, 2, y, 256, u, 256, v, 256, map, 64, rects, 4, 9, 2, 9, 5, columns, 18, fourths_u, 5, fourths_v, 5) ==
               HAYTHAW_DONE,
           "apply_auxiliary_v2", "a number");
     check(u[0] == 0 && u[1] == 31 && u[16] == 33 && u[17] == 32 && u[18] == 0, "apply_auxiliary_v2", "U");
     check(v[0] == 0 && v[1] == 41 && v[16] == 43 && v[17] == 42 && v[18] == 0, "apply_auxiliary_v2", "V");
+    check(map[0] == 2 && map[1] == 1, "apply_auxiliary_v2", "a map");
+    map[0] = 1;
 
     /* V2 by the 32 rule: a picture of 2 counts as 32 wide, so V stands 16 columns after U in luma and 8 in chroma, of a view of 17 by 2. */
     const uint8_t wide[34] = {51, 0, 0, 0, 0, 0, 0, 0, 0, 0, 0, 0, 0, 0, 0, 0, 61, 52, 0, 0, 0, 0, 0, 0, 0, 0, 0, 0, 0, 0, 0, 0, 0, 62};
     const uint8_t wide_u[9] = {53, 0, 0, 0, 0, 0, 0, 0, 63}, wide_v[9] = {0};
-    check(haythaw_apply_auxiliary_v2_32(2, 2, y, 256, u, 256, v, 256, rects, 4, 17, 2, 17, 8, wide, 34, wide_u, 9, wide_v, 9) ==
+    check(haythaw_apply_auxiliary_v2_32(2, 2, y, 256, u, 256, v, 256, map, 64, rects, 4, 17, 2, 17, 8, wide, 34, wide_u, 9, wide_v, 9) ==
               HAYTHAW_VIEW_NARROW,
           "apply_auxiliary_v2_32", "a refusal");
-    check(haythaw_apply_auxiliary_v2_32(2, 2, y, 256, u, 256, v, 256, rects, 4, 17, 2, 17, 9, wide, 34, wide_u, 9, wide_v, 9) ==
+    check(haythaw_apply_auxiliary_v2_32(2, 2, y, 256, u, 256, v, 256, map, 64, rects, 4, 17, 2, 17, 9, wide, 34, wide_u, 9, wide_v, 9) ==
               HAYTHAW_DONE,
           "apply_auxiliary_v2_32", "a number");
     check(u[0] == 0 && u[1] == 51 && u[16] == 53 && u[17] == 52 && u[18] == 0, "apply_auxiliary_v2_32", "U");
     check(v[0] == 0 && v[1] == 61 && v[16] == 63 && v[17] == 62 && v[18] == 0, "apply_auxiliary_v2_32", "V");
+    check(map[0] == 2 && map[1] == 1, "apply_auxiliary_v2_32", "a map");
+    map[0] = 1;
     /* V2 by the rule Exact: a picture of 2 is 2 wide, so V stands a column after U in luma, and both stand in one place in chroma. */
     const uint8_t own[4] = {71, 81, 72, 82}, own_u[1] = {73}, own_v[1] = {0};
-    check(haythaw_apply_auxiliary_v2_exact(2, 2, y, 256, u, 256, v, 256, rects, 3, 2, 2, 2, 1, own, 4, own_u, 1, own_v, 1) ==
+    check(haythaw_apply_auxiliary_v2_exact(2, 2, y, 256, u, 256, v, 256, map, 64, rects, 3, 2, 2, 2, 1, own, 4, own_u, 1, own_v, 1) ==
               HAYTHAW_LIST_UNEVEN,
           "apply_auxiliary_v2_exact", "a refusal");
-    check(haythaw_apply_auxiliary_v2_exact(2, 2, y, 256, u, 256, v, 256, rects, 4, 2, 2, 2, 1, own, 4, own_u, 1, own_v, 1) ==
+    check(haythaw_apply_auxiliary_v2_exact(2, 2, y, 256, u, 256, v, 256, map, 64, rects, 4, 2, 2, 2, 1, own, 4, own_u, 1, own_v, 1) ==
               HAYTHAW_DONE,
           "apply_auxiliary_v2_exact", "a number");
     check(u[0] == 0 && u[1] == 71 && u[16] == 73 && u[17] == 72 && u[18] == 0, "apply_auxiliary_v2_exact", "U");
     check(v[0] == 0 && v[1] == 81 && v[16] == 73 && v[17] == 82 && v[18] == 0, "apply_auxiliary_v2_exact", "V");
+    check(map[0] == 2 && map[1] == 1, "apply_auxiliary_v2_exact", "a map");
+    map[0] = 1;
     check(y[0] == 0 && y[16] == 0, "the auxiliary views", "no Y");
 }
 

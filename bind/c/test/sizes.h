@@ -22,6 +22,12 @@ static bool plane_short(const Args *a)
     return a->count[Y] < plane || a->count[U] < plane || a->count[V] < plane;
 }
 
+/* 1 covers the map in every call but split, which is not lent it. */
+static bool picture_short(const Args *a)
+{
+    return plane_short(a) || a->count[MAP] < up_to(a->width, 16) / 2 * (up_to(a->height, 16) / 2);
+}
+
 static uint32_t view_number(const Args *a)
 {
     const size_t half_width = (a->view_width + 1u) / 2, half_height = (a->view_height + 1u) / 2;
@@ -47,10 +53,10 @@ static uint32_t split_number(enum call call, const Args *a)
 static uint32_t the_number(enum call call, const Args *a)
 {
     switch (call) {
-    case NEW: return plane_short(a) ? 1 : 0;
-    case FROM_RGBA: case FROM_RGBA_RUST: return a->count[RGBA] < (size_t)4 * a->width * a->height ? 2 : plane_short(a) ? 1 : 0;
-    case TO_RGBA: return plane_short(a) ? 1 : a->count[OUT] < clipped(a) ? 6 : 0;
-    case MAIN: case AUX_V1: case AUX_V2: case AUX_V2_32: case AUX_V2_EXACT: return plane_short(a) ? 1 : a->count[RECTS] % 4 != 0 ? 7 : view_number(a);
+    case NEW: return picture_short(a) ? 1 : 0;
+    case FROM_RGBA: case FROM_RGBA_RUST: return a->count[RGBA] < (size_t)4 * a->width * a->height ? 2 : picture_short(a) ? 1 : 0;
+    case TO_RGBA: return picture_short(a) ? 1 : a->count[OUT] < clipped(a) ? 6 : 0;
+    case MAIN: case AUX_V1: case AUX_V2: case AUX_V2_32: case AUX_V2_EXACT: return picture_short(a) ? 1 : a->count[RECTS] % 4 != 0 ? 7 : view_number(a);
     case SPLIT_V1: case SPLIT_V2: case SPLIT_V2_32: return split_number(call, a);
     case VIEW_TO_RGBA:
         return view_number(a) != 0 ? view_number(a) : a->count[OUT] < (size_t)4 * a->view_width * a->view_height ? 6 : 0;
@@ -80,6 +86,8 @@ static void picture_sizes(void)
         a.view_width = 5, a.view_height = 3, a.luma_stride = 7, a.chroma_stride = 4, a.right = 65535, a.bottom = 65535;
         for (int s = Y; s <= AUX_V && !none; s++)
             lend_as(&a, (enum slice)s, 512, NULL);
+        if (!none)
+            lend_as(&a, MAP, 128, NULL);
         a.count[RECTS] /= 2;
         for (size_t i = 0; i < SIDES; i++)
             for (size_t j = 0; j < SIDES; j++)

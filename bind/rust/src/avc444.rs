@@ -63,23 +63,27 @@ pub enum WidthRule {
 pub struct Yuv444Frame {
     width: u16,
     height: u16,
-    // INVARIANT: each plane has a third of `allocation_size(width, height)` bytes, so that the library never finds one too short.
+    // INVARIANT: each plane has a third of `allocation_size(width, height)` bytes, and the map `map_size`, so that the library never finds
+    // one too short.
     y: Vec<u8>,
     u: Vec<u8>,
     v: Vec<u8>,
+    map: Vec<u8>,
 }
 
-/// How many chroma samples the reverse chroma filter replaced; see [`Yuv444Frame::to_rgba_counted`].
+/// What was counted on the way to RGBA; see [`Yuv444Frame::to_rgba_counted`].
 #[derive(Debug, Clone, Copy, Default, PartialEq, Eq, Hash)]
-pub struct FilterCounts {
-    /// Samples of U.
-    pub u: usize,
-    /// Samples of V.
-    pub v: usize,
+pub struct PixelCounts {
+    /// Samples of U that the reverse chroma filter replaced.
+    pub filtered_u: usize,
+    /// Samples of V that it replaced.
+    pub filtered_v: usize,
+    /// Pixels in blocks whose colour is not complete; see [`Yuv444Frame::map`].
+    pub stale: usize,
 }
 
 /// A call of the library that makes a picture of RGBA pixels: 0, 2 or 1.
-type Making = fn(&[u8], Size, [&mut [u8]; 3]) -> u32;
+type Making = fn(&[u8], Size, [&mut [u8]; 4]) -> u32;
 
 /// A call of the library that splits a picture: 0, 1, 5 or 6.
 type Splitting = fn(Size, [&[u8]; 3], [&mut [u8]; 3], [&mut [u8]; 3]) -> library::Views;
@@ -97,8 +101,8 @@ impl Yuv444Frame {
     /// ```
     pub fn new(width: u16, height: u16) -> Self {
         let mut picture = Self::blank(width, height);
-        let (size, planes) = picture.lent_mut();
-        library::done("new", library::new(size, planes));
+        let (size, lent) = picture.lent_mut();
+        library::done("new", library::new(size, lent));
         picture
     }
 
@@ -152,7 +156,7 @@ impl Yuv444Frame {
         Self::of_pixels(library::from_rgba, rgba, width, height)
     }
 
-    /// Bytes that [`Self::new`] allocates for a picture of this size.
+    /// Bytes that [`Self::new`] allocates for the three planes of a picture of this size; its [map](Self::map) takes a twelfth of it more.
     ///
     /// ```
     /// use haythaw::avc444::Yuv444Frame;
@@ -164,7 +168,7 @@ impl Yuv444Frame {
         library::allocation_size(Size { width, height })
     }
 
-    /// Bytes that this picture holds.
+    /// Bytes that this picture's three planes hold.
     pub fn allocated_bytes(&self) -> usize {
         self.y.len() + self.u.len() + self.v.len()
     }
@@ -177,6 +181,33 @@ impl Yuv444Frame {
     /// Height in pixels.
     pub fn height(&self) -> u16 {
         self.height
+    }
+
+    /// The map of stale colour: one byte for each 2x2 block of the padded picture, row by row.
+    ///
+    /// 0: the block never had a main view. 1: it had one, and no auxiliary view has completed it since. 2: complete. A main view sets 1 where
+    /// it takes any chroma of the block; an auxiliary view turns 1 into 2 where it takes all three of the block's other samples, in one
+    /// call. A fresh picture is 0 everywhere, and one of RGBA pixels 2. A row has half as many bytes as the width rounded up to 16.
+    ///
+    /// ```
+    /// use haythaw::avc444::{Avc444Layout, Yuv444Frame};
+    /// use haythaw::geometry::ExclusiveRectangle;
+    ///
+    /// let sent = Yuv444Frame::from_rgba(&[255; 4 * 5 * 5], 5, 5).expect("5 x 5 pixels");
+    /// let (main, auxiliary) = sent.split(Avc444Layout::V2)?;
+    /// let mut picture = Yuv444Frame::new(5, 5);
+    /// assert_eq!(picture.map(), [0; 8 * 8]);
+    ///
+    /// // One pixel, whose block is the second of the first row: first its main view, then its auxiliary view.
+    /// let pixel = ExclusiveRectangle { left: 3, top: 0, right: 4, bottom: 1 };
+    /// picture.apply_main_view(&main, &[pixel]);
+    /// assert_eq!(picture.map()[..3], [0, 1, 0]);
+    /// picture.apply_auxiliary_view(Avc444Layout::V2, &auxiliary, &[pixel]);
+    /// assert_eq!(picture.map()[..3], [0, 2, 0]);
+    /// # Ok::<(), haythaw::decode::DecoderError>(())
+    /// ```
+    pub fn map(&self) -> &[u8] {
+        &self.map
     }
 
     /// Takes luma and a quarter of the chroma from a main view, within `rects`.
@@ -197,8 +228,8 @@ impl Yuv444Frame {
     /// # Ok::<(), haythaw::decode::DecoderError>(())
     /// ```
     pub fn apply_main_view(&mut self, view: &Yuv420Frame, rects: &[ExclusiveRectangle]) {
-        let (size, planes) = self.lent_mut();
-        let number = library::apply_main_view(size, planes, library::numbers_of(rects), view.lent());
+        let (size, lent) = self.lent_mut();
+        let number = library::apply_main_view(size, lent, library::numbers_of(rects), view.lent());
         library::done("apply_main_view", number);
     }
 
@@ -211,8 +242,8 @@ impl Yuv444Frame {
             Avc444Layout::V1 => library::apply_auxiliary_v1,
             Avc444Layout::V2 => library::apply_auxiliary_v2,
         };
-        let (size, planes) = self.lent_mut();
-        library::done("apply_auxiliary_view", apply(size, planes, library::numbers_of(rects), view.lent()));
+        let (size, lent) = self.lent_mut();
+        library::done("apply_auxiliary_view", apply(size, lent, library::numbers_of(rects), view.lent()));
     }
 
     /// The same for an auxiliary view of layout V2, by a rule for its width, which the original has no call for.
@@ -245,8 +276,8 @@ impl Yuv444Frame {
             WidthRule::To32 => library::apply_auxiliary_v2_32,
             WidthRule::Exact => library::apply_auxiliary_v2_exact,
         };
-        let (size, planes) = self.lent_mut();
-        library::done("apply_auxiliary_view_v2", apply(size, planes, library::numbers_of(rects), view.lent()));
+        let (size, lent) = self.lent_mut();
+        library::done("apply_auxiliary_view_v2", apply(size, lent, library::numbers_of(rects), view.lent()));
     }
 
     /// The pixels of `rect`, clipped to the picture, as tightly packed RGBA: the reverse transform of MS-RDPEGFX 3.3.8.3.1 after the
@@ -266,13 +297,14 @@ impl Yuv444Frame {
         self.to_rgba_counted(rect).0
     }
 
-    /// The same pixels, and how many samples the reverse chroma filter replaced on their way.
+    /// The same pixels, how many samples the reverse chroma filter replaced on their way, and how many of the pixels are stale.
     ///
     /// The filter looks at one sample of U and one of V in each 2x2 block, that at even row and even column of the picture. It counts
-    /// where it answers another value than the block's average, and `rect` has that pixel.
+    /// where it answers another value than the block's average, and `rect` has that pixel. A pixel is stale where the map does not call
+    /// its block complete: its colour may be half old.
     ///
     /// ```
-    /// use haythaw::avc444::{FilterCounts, Yuv444Frame};
+    /// use haythaw::avc444::{PixelCounts, Yuv444Frame};
     /// use haythaw::geometry::ExclusiveRectangle;
     ///
     /// // A magenta pixel beside white ones: its colour comes back from the average of the block.
@@ -280,23 +312,27 @@ impl Yuv444Frame {
     /// rgba[..4].copy_from_slice(&[255, 0, 255, 255]);
     /// let picture = Yuv444Frame::from_rgba(&rgba, 2, 2).expect("2 x 2 pixels");
     /// let whole = ExclusiveRectangle { left: 0, top: 0, right: 2, bottom: 2 };
-    /// let (shown, filtered) = picture.to_rgba_counted(&whole);
-    /// assert_eq!(filtered, FilterCounts { u: 1, v: 1 });
+    /// let (shown, counts) = picture.to_rgba_counted(&whole);
+    /// assert_eq!(counts, PixelCounts { filtered_u: 1, filtered_v: 1, stale: 0 });
     /// assert_eq!(shown, picture.to_rgba(&whole));
     ///
     /// // The pixel at its right is not one that the filter looks at.
     /// let beside = ExclusiveRectangle { left: 1, ..whole };
-    /// assert_eq!(picture.to_rgba_counted(&beside).1, FilterCounts::default());
+    /// assert_eq!(picture.to_rgba_counted(&beside).1, PixelCounts::default());
+    ///
+    /// // Of a fresh picture no block has had a view.
+    /// assert_eq!(Yuv444Frame::new(2, 2).to_rgba_counted(&whole).1.stale, 4);
     /// ```
-    pub fn to_rgba_counted(&self, rect: &ExclusiveRectangle) -> (Vec<u8>, FilterCounts) {
+    pub fn to_rgba_counted(&self, rect: &ExclusiveRectangle) -> (Vec<u8>, PixelCounts) {
         let across = rect.right.min(self.width).saturating_sub(rect.left);
         let down = rect.bottom.min(self.height).saturating_sub(rect.top);
         let mut rgba = vec![0; usize::from(across) * usize::from(down) * 4];
-        let (size, planes) = self.lent();
-        let answer = library::to_rgba(size, planes, [rect.left, rect.top, rect.right, rect.bottom], &mut rgba);
+        let (size, [y, u, v]) = self.lent();
+        let answer =
+            library::to_rgba(size, [y, u, v, &self.map], [rect.left, rect.top, rect.right, rect.bottom], &mut rgba);
         library::done("to_rgba", answer.number);
         rgba.truncate(answer.count);
-        (rgba, FilterCounts { u: answer.filtered_u, v: answer.filtered_v })
+        (rgba, PixelCounts { filtered_u: answer.filtered_u, filtered_v: answer.filtered_v, stale: answer.stale })
     }
 
     /// Splits the picture into its main view and its auxiliary view, both as large as the padded planes.
@@ -374,19 +410,20 @@ impl Yuv444Frame {
     fn of_pixels(make: Making, rgba: &[u8], width: u16, height: u16) -> Option<Self> {
         // Pixels that are too few (2) are refused before planes that are too short (1). So the library is asked over no planes first,
         // and a picture that there will not be is never allocated.
-        if make(rgba, Size { width, height }, [&mut [], &mut [], &mut []]) == 2 {
+        if make(rgba, Size { width, height }, [&mut [], &mut [], &mut [], &mut []]) == 2 {
             return None;
         }
         let mut picture = Self::blank(width, height);
-        let (size, planes) = picture.lent_mut();
-        library::done("from_rgba", make(rgba, size, planes));
+        let (size, lent) = picture.lent_mut();
+        library::done("from_rgba", make(rgba, size, lent));
         Some(picture)
     }
 
-    /// Planes of this size, for the library to write.
+    /// Planes and a map of this size, for the library to write.
     fn blank(width: u16, height: u16) -> Self {
         let plane = Self::allocation_size(width, height) / 3;
-        Self { width, height, y: vec![0; plane], u: vec![0; plane], v: vec![0; plane] }
+        let map = vec![0; library::map_size(Size { width, height })];
+        Self { width, height, y: vec![0; plane], u: vec![0; plane], v: vec![0; plane], map }
     }
 
     /// Planes for a view of this picture, for the library to write: luma as wide as the width rounded up to `unit`, with as many rows as
@@ -396,14 +433,14 @@ impl Yuv444Frame {
         [vec![0; luma], vec![0; luma / 4], vec![0; luma / 4]]
     }
 
-    /// The picture as the library reads it.
+    /// The picture's planes as the library reads them.
     fn lent(&self) -> (Size, [&[u8]; 3]) {
         (Size { width: self.width, height: self.height }, [&self.y, &self.u, &self.v])
     }
 
-    /// The picture as the library writes it.
-    fn lent_mut(&mut self) -> (Size, [&mut [u8]; 3]) {
-        (Size { width: self.width, height: self.height }, [&mut self.y, &mut self.u, &mut self.v])
+    /// The picture's planes and its map as the library writes them.
+    fn lent_mut(&mut self) -> (Size, [&mut [u8]; 4]) {
+        (Size { width: self.width, height: self.height }, [&mut self.y, &mut self.u, &mut self.v, &mut self.map])
     }
 }
 

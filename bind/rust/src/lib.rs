@@ -14,7 +14,7 @@ pub mod pdu;
 
 #[doc(no_inline)]
 pub use crate::{
-    avc444::{Avc444Layout, FilterCounts, WidthRule, Yuv444Frame},
+    avc444::{Avc444Layout, PixelCounts, WidthRule, Yuv444Frame},
     avc444_payload::{
         Avc444Payload, PayloadKind, PayloadParts, QuantQuality, ReadError, Stream, StreamParts, WriteError,
     },

@@ -1,7 +1,7 @@
 //! The numbers that the rules works by hand, through this crate's calls. A picture's planes are read by splitting it: the two views
 //! hold every sample.
 
-use haythaw::{Avc444Layout, ExclusiveRectangle, FilterCounts, WidthRule, Yuv420Frame, Yuv444Frame};
+use haythaw::{Avc444Layout, ExclusiveRectangle, PixelCounts, WidthRule, Yuv420Frame, Yuv444Frame};
 
 fn rect([left, top, right, bottom]: [u16; 4]) -> ExclusiveRectangle {
     ExclusiveRectangle { left, top, right, bottom }
@@ -83,11 +83,14 @@ fn what_the_filter_replaced() {
         ([5, 0, 9, 3], 0),
         ([4, 0, 2, 3], 0),
     ] {
-        let (shown, filtered) = picture.to_rgba_counted(&rect(edges));
-        assert_eq!(filtered, FilterCounts { u: blocks, v: blocks }, "{edges:?}");
+        let (shown, counts) = picture.to_rgba_counted(&rect(edges));
+        assert_eq!(counts, PixelCounts { filtered_u: blocks, filtered_v: blocks, stale: 0 }, "{edges:?}");
         assert_eq!(shown, picture.to_rgba(&rect(edges)), "{edges:?}");
     }
-    assert_eq!(Yuv444Frame::new(5, 3).to_rgba_counted(&rect([0, 0, 5, 3])).1, FilterCounts::default());
+    assert_eq!(
+        Yuv444Frame::new(5, 3).to_rgba_counted(&rect([0, 0, 5, 3])).1,
+        PixelCounts { stale: 15, ..PixelCounts::default() }
+    );
 }
 
 /// The four cases that are farthest off, in blocks of U above and of V below: an even-even sample x, right of it s, and 0 twice. (40, 1) and
@@ -120,7 +123,8 @@ fn how_far_a_colour_is_off() {
             assert_eq!((if of_u { &u } else { &v })[row * stride + col], average, "block {k}");
             let (left, top) = (col as u16, row as u16);
             let (shown, filtered) = picture.to_rgba_counted(&rect([left, top, left + 1, top + 1]));
-            let counts = if of_u { FilterCounts { u: undone, v: 0 } } else { FilterCounts { u: 0, v: undone } };
+            let (filtered_u, filtered_v) = if of_u { (undone, 0) } else { (0, undone) };
+            let counts = PixelCounts { filtered_u, filtered_v, stale: 0 };
             assert_eq!((shown, filtered), (vec![r, g, b, 255], counts), "block {k}");
         }
     }
@@ -425,4 +429,69 @@ fn a_first_unit_of_256_to_511_bytes_is_read_as_annex_b() {
 #[should_panic(expected = "DecodedFrame buffer must be RGBA8888")]
 fn a_decoded_frame_has_its_pixels() {
     let _ = haythaw::DecodedFrame::new(vec![0; 3], 1, 1);
+}
+
+/// The blocks of a picture's map that are not `other`: row, column and what they hold.
+fn blocks(picture: &Yuv444Frame, other: u8) -> Vec<(usize, usize, u8)> {
+    let across = usize::from(picture.width()).next_multiple_of(16) / 2;
+    let held = picture.map().iter().enumerate();
+    held.filter(|(_, &block)| block != other).map(|(k, &block)| (k / across, k % across, block)).collect()
+}
+
+/// A fresh picture is 0 in all 64 blocks, one of RGBA 2. The rectangle (5, 0, 5, 4) is empty and widens to columns 4 and 5 and rows 0 to 3:
+/// block column 2, block rows 0 and 1. (4, 0, 4, 4) widens to nothing.
+#[test]
+fn the_map_by_hand() {
+    assert_eq!(Yuv444Frame::new(1, 1).map(), [0; 64]);
+    assert_eq!(Yuv444Frame::from_rgba(&[9; 4], 1, 1).expect("a pixel").map(), [2; 64]);
+    assert_eq!(Yuv444Frame::from_rgba_filled(&[9; 4], 1, 1).expect("a pixel").map(), [2; 64]);
+
+    let mut picture = Yuv444Frame::new(5, 5);
+    let view = sevens(16, 16);
+    picture.apply_main_view(&view, &[rect([4, 0, 4, 4])]);
+    assert!(blocks(&picture, 0).is_empty());
+    picture.apply_auxiliary_view(Avc444Layout::V1, &view, &[rect([0, 0, 5, 5])]);
+    assert!(blocks(&picture, 0).is_empty(), "no block had a main view");
+    picture.apply_main_view(&view, &[rect([5, 0, 5, 4])]);
+    assert_eq!(blocks(&picture, 0), [(0, 2, 1), (1, 2, 1)]);
+    assert_eq!(picture.to_rgba_counted(&rect([0, 0, 5, 5])).1.stale, 25);
+    picture.apply_auxiliary_view_v2(WidthRule::To16, &view, &[rect([4, 2, 5, 3])]);
+    assert_eq!(blocks(&picture, 0), [(0, 2, 1), (1, 2, 2)]);
+    assert_eq!(
+        picture.to_rgba_counted(&rect([0, 0, 5, 5])).1.stale,
+        23,
+        "a block at the odd right edge has two pixels"
+    );
+    picture.apply_main_view(&view, &[rect([4, 2, 5, 3])]);
+    assert_eq!(blocks(&picture, 0), [(0, 2, 1), (1, 2, 1)], "a main view over 2");
+}
+
+/// Of a view of 16 by 12 a main view marks block rows 0 to 5; V1 completes 0 to 3, since the V rows of rows 9 and 11 are absent. V2 with a
+/// view 20 wide, so W 32, completes block columns 0 to 3; with one of 16 by 5, block rows 0 and 1.
+#[test]
+fn what_a_view_completes() {
+    let whole = [rect([0, 0, 65535, 65535])];
+    let mut picture = Yuv444Frame::new(16, 16);
+    picture.apply_main_view(&sevens(16, 12), &whole);
+    assert!(
+        blocks(&picture, 1).iter().all(|&(row, _, block)| row >= 6 && block == 0) && blocks(&picture, 0).len() == 6 * 8
+    );
+    picture.apply_auxiliary_view(Avc444Layout::V1, &sevens(16, 12), &whole);
+    assert!(
+        picture.map()[..4 * 8].iter().all(|&block| block == 2)
+            && picture.map()[4 * 8..6 * 8].iter().all(|&block| block == 1)
+    );
+
+    let mut picture = Yuv444Frame::new(20, 16);
+    picture.apply_main_view(&sevens(20, 16), &whole);
+    picture.apply_auxiliary_view(Avc444Layout::V2, &sevens(20, 16), &whole);
+    assert!(blocks(&picture, 0).iter().all(|&(_, col, block)| block == if col < 4 { 2 } else { 1 }));
+
+    let mut picture = Yuv444Frame::new(16, 16);
+    picture.apply_main_view(&sevens(16, 5), &whole);
+    picture.apply_auxiliary_view(Avc444Layout::V2, &sevens(16, 5), &whole);
+    assert!(
+        blocks(&picture, 0).iter().all(|&(row, _, block)| block == if row < 2 { 2 } else { 1 })
+            && blocks(&picture, 0).len() == 3 * 8
+    );
 }

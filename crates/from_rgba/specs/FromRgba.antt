@@ -10,7 +10,8 @@
 --   Repeated z px z′ qx    qx are the pixels of a picture as wide and high as the planes of z: px, with its last column, then its last row, repeated
 --   rgbaShort z n          refusal 2: n bytes are fewer than width x height x 4
 --   fromNumberOf z n ny nu nv      the number that both calls answer, n being the input's length, ny, nu and nv the planes'
---   fromBuffersOf e px z y u v     what the three lent buffers hold after the call: `from_rgba` has the edge rule Filled, `from_rgba_rust` Fresh
+--   madeBuffersOf n e px z y u v   what the three lent buffers hold after a call that answers n, by the edge rule e
+--   fromBuffersOf e px z y u v     what they hold after `with_edge`
 --   FromRgbaOutcome e px z y u v   how the call ends, refusals included
 use Prim.Native.Nat.{ℕ, _+_, _*_, _-_, _<_, min}
 use mathlib.Core.Path.{_≡_}
@@ -64,13 +65,15 @@ rgbaShort z n = ltb n (z .width * z .height * 4)
 abbrev pub fromNumberOf : Size → ℕ → ℕ → ℕ → ℕ → ℕ
 fromNumberOf z n ny nu nv = refusal ((rgbaShort z n, 2) ∷ (planesShort z ny nu nv, 1) ∷ [])
 
-unfoldable pub fromBuffersOf : Edge → List ℕ → Size → List ℕ → List ℕ → List ℕ → List (List ℕ)
-fromBuffersOf e px z y u v =
-    let n = fromNumberOf z (length px) (length y) (length u) (length v) in
+abbrev pub madeBuffersOf : ℕ → Edge → List ℕ → Size → List ℕ → List ℕ → List ℕ → List (List ℕ)
+madeBuffersOf n e px z y u v =
     lentAfter n y (planeOf z (withEdge e z (lumaPlane z px)) y)
     ∷ lentAfter n u (planeOf z (averaged (withEdge e z (chromaUPlane z px))) u)
     ∷ lentAfter n v (planeOf z (averaged (withEdge e z (chromaVPlane z px))) v)
     ∷ []
+
+unfoldable pub fromBuffersOf : Edge → List ℕ → Size → List ℕ → List ℕ → List ℕ → List (List ℕ)
+fromBuffersOf e px z y u v = madeBuffersOf (fromNumberOf z (length px) (length y) (length u) (length v)) e px z y u v
 
 abbrev pub FromRgbaOutcome : Edge → List ℕ → Size → List ℕ → List ℕ → List ℕ → Answer → List (List ℕ) → Type 0
 FromRgbaOutcome e px z y u v =

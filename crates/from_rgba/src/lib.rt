@@ -1,8 +1,8 @@
 // A 4:4:4 picture from RGBA pixels (ports `Yuv444Frame::from_rgba`).
 //
 // Each pixel is converted (rows), the padding is put by the edge rule (edges), and then U and V of each even row and even column are
-// replaced by their block's average (averages). `from_rgba` fills the edge; `from_rgba_rust` leaves the padding as the Rust does. Both
-// promise their number and every byte of the three buffers, for every input, size and length: a refusal alters nothing.
+// replaced by their block's average (averages). The edge rule fills the edge, or leaves the padding as the Rust does. The call promises its
+// number and every byte of the three buffers, for every input, size and length: a refusal alters nothing.
 pub mod averages; // the average of each 2x2 block
 pub mod edges; // the padding
 pub mod rows; // the converted pixels
@@ -24,12 +24,11 @@ ghost use Rattle.from_rgba.specs.FromRgba.{
   fromNumberOf,
   FromRgbaOutcome,
 };
-ghost use Rattle.from_rgba.specs.declared.edges.Edge.the-variants.{Fresh, Filled};
 use crate::edges::Edge;
 use picture::Size;
 
 // Refusal 2: n bytes of RGBA are fewer than width x height x 4.
-fn rgba_short(size: Size, n: usize) -> bool
+pub fn rgba_short(size: Size, n: usize) -> bool
     ensures { λ r. ⌜ r ≡ rgbaShort size n ⌝ }
 {
     let width = size.width as usize;
@@ -37,7 +36,7 @@ fn rgba_short(size: Size, n: usize) -> bool
     n < width * height * 4
 }
 
-// The number of both calls: 2, 1 or 0.
+// The number of the call: 2, 1 or 0.
 fn from_number(size: Size, n: usize, ny: usize, nu: usize, nv: usize) -> u32
     ensures { λ r. ⌜ r ≡ fromNumberOf size n ny nu nv ⌝ }
 {
@@ -77,8 +76,10 @@ fn make_planes(edge: Edge, rgba: &[u8], size: Size, y: &mut [u8], u: &mut [u8], 
     finish_chroma(edge, v, size);
 }
 
-// A picture from width x height pixels of four bytes; what follows them, and their alpha, is ignored. Its padding is by the edge rule.
-fn with_edge(
+// A picture from width x height pixels of four bytes; what follows them, and their alpha, is ignored. Its padding is by the edge rule: Filled,
+// each sample of it is the nearest one of the picture; or Fresh, Y 0, U and V 128, which the last averages take in. Ports `Yuv444Frame::from_rgba`,
+// which has the second.
+pub fn with_edge(
     edge: Edge,
     rgba: &[u8],
     size: Size,
@@ -98,26 +99,4 @@ fn with_edge(
         number: 0,
         count: 0,
     }
-}
-
-// The picture of width x height pixels, its edge filled: each sample of the padding is the nearest one of the picture.
-pub fn from_rgba(rgba: &[u8], size: Size, y: &mut [u8], u: &mut [u8], v: &mut [u8]) -> lent::Answer
-    ensures { λ r. ⌜ FromRgbaOutcome Filled (now (rgba .entry)) size (now (y .entry)) (now (u .entry)) (now (v .entry))
-        r (now (y .exit) ∷ now (u .exit) ∷ now (v .exit) ∷ []) ⌝ }
-{
-    with_edge(Edge::Filled, rgba, size, y, u, v)
-}
-
-// The same with padding of Y 0, U and V 128, which the last averages take in. Ports `Yuv444Frame::from_rgba`.
-pub fn from_rgba_rust(
-    rgba: &[u8],
-    size: Size,
-    y: &mut [u8],
-    u: &mut [u8],
-    v: &mut [u8],
-) -> lent::Answer
-    ensures { λ r. ⌜ FromRgbaOutcome Fresh (now (rgba .entry)) size (now (y .entry)) (now (u .entry)) (now (v .entry))
-        r (now (y .exit) ∷ now (u .exit) ∷ now (v .exit) ∷ []) ⌝ }
-{
-    with_edge(Edge::Fresh, rgba, size, y, u, v)
 }

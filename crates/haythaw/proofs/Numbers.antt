@@ -8,12 +8,12 @@ use Rattle.lent.specs.Outcome.{Outcome, answerOf}
 use Rattle.picture.specs.declared.Size.{Size}
 use Rattle.view.specs.declared.View.{View}
 use Rattle.layout.specs.declared.Layout.{Layout}
-use Rattle.apply_auxiliary.specs.Auxiliary.{ApplyAuxiliaryViewOutcome}
+use Rattle.map_apply.specs.Calls.{MapAuxiliaryOutcome}
 use Rattle.haythaw.specs.Apply.{HaythawApplyAuxiliaryOutcome}
 
 pub number-alone : {n : ℕ} {bs rs : List (List ℕ)} {r : Answer} → Outcome (answerOf n 0) bs r rs → Outcome n bs (r .number) rs
 number-alone x = record { answer = λ i. x .answer i .number; buffers = x .buffers }
 
-pub auxiliary-number : {l t : Layout} → l ≡ t → (z : Size) (w : View) (rects vy vu vv y u v : List ℕ) {r : Answer} {rs : List (List ℕ)}
-    → ApplyAuxiliaryViewOutcome l z w rects vy vu vv y u v r rs → HaythawApplyAuxiliaryOutcome t z w rects vy vu vv y u v (r .number) rs
-auxiliary-number found z w rects vy vu vv y u v {r} {rs} x = number-alone (subst (λ (k : Layout). ApplyAuxiliaryViewOutcome k z w rects vy vu vv y u v r rs) found x)
+pub auxiliary-number : {l t : Layout} → l ≡ t → (z : Size) (w : View) (rects vy vu vv y u v m : List ℕ) {r : Answer} {rs : List (List ℕ)}
+    → MapAuxiliaryOutcome l z w rects vy vu vv y u v m r rs → HaythawApplyAuxiliaryOutcome t z w rects vy vu vv y u v m (r .number) rs
+auxiliary-number found z w rects vy vu vv y u v m {r} {rs} x = number-alone (subst (λ (k : Layout). MapAuxiliaryOutcome k z w rects vy vu vv y u v m r rs) found x)

@@ -1,4 +1,4 @@
-// Views go into a picture, within the rectangles of a list.
+// Views go into a picture and its map, within the rectangles of a list.
 ghost use mathlib.Core.List.{[], _∷_};
 ghost use Rattle.layout.specs.Maps.{layoutOf, exactLayoutOf};
 ghost use Rattle.layout.specs.declared.Layout.the-variants.{V1};
@@ -12,7 +12,7 @@ use layout::WidthRule;
 use picture::Size;
 use view::View;
 
-// The main view: luma within the rectangles, chroma within the blocks that they touch. 0, 1, 7, 3 or 4.
+// The main view: luma within the rectangles, chroma within the blocks that they touch; the map becomes 1 there. 0, 1, 7, 3 or 4.
 #[no_mangle]
 pub extern "C" fn haythaw_apply_main_view(
     width: u16,
@@ -20,6 +20,7 @@ pub extern "C" fn haythaw_apply_main_view(
     y: &mut [u8],
     u: &mut [u8],
     v: &mut [u8],
+    map: &mut [u8],
     rects: &[u16],
     view_width: u16,
     view_height: u16,
@@ -32,7 +33,8 @@ pub extern "C" fn haythaw_apply_main_view(
     ensures { λ r. ⌜ HaythawApplyMainViewOutcome
         (sizeOf width height) (sizesOf «view_width» «view_height» «luma_stride» «chroma_stride»)
         (now (rects .entry)) (now («view_y» .entry)) (now («view_u» .entry)) (now («view_v» .entry))
-        (now (y .entry)) (now (u .entry)) (now (v .entry)) r (now (y .exit) ∷ now (u .exit) ∷ now (v .exit) ∷ []) ⌝ }
+        (now (y .entry)) (now (u .entry)) (now (v .entry)) (now (map .entry))
+        r (now (y .exit) ∷ now (u .exit) ∷ now (v .exit) ∷ now (map .exit) ∷ []) ⌝ }
 {
     let w = View {
         width: view_width,
@@ -41,11 +43,11 @@ pub extern "C" fn haythaw_apply_main_view(
         chroma_stride,
     };
     let size = Size { width, height };
-    apply_main::apply_main_view(size, y, u, v, rects, w, view_y, view_u, view_v).number
+    map_apply::apply_main_view(size, y, u, v, map, rects, w, view_y, view_u, view_v).number
 }
 
 // The auxiliary view of layout V1: the chroma that the main view leaves out, within the blocks that the rectangles touch; Y is lent and
-// never written. 0, 1, 7, 3 or 4.
+// never written, and the map of a block that is 1 becomes 2 where the view completes it. 0, 1, 7, 3 or 4.
 #[no_mangle]
 pub extern "C" fn haythaw_apply_auxiliary_v1(
     width: u16,
@@ -53,6 +55,7 @@ pub extern "C" fn haythaw_apply_auxiliary_v1(
     y: &mut [u8],
     u: &mut [u8],
     v: &mut [u8],
+    map: &mut [u8],
     rects: &[u16],
     view_width: u16,
     view_height: u16,
@@ -65,7 +68,8 @@ pub extern "C" fn haythaw_apply_auxiliary_v1(
     ensures { λ r. ⌜ HaythawApplyAuxiliaryOutcome
         V1 (sizeOf width height) (sizesOf «view_width» «view_height» «luma_stride» «chroma_stride»)
         (now (rects .entry)) (now («view_y» .entry)) (now («view_u» .entry)) (now («view_v» .entry))
-        (now (y .entry)) (now (u .entry)) (now (v .entry)) r (now (y .exit) ∷ now (u .exit) ∷ now (v .exit) ∷ []) ⌝ }
+        (now (y .entry)) (now (u .entry)) (now (v .entry)) (now (map .entry))
+        r (now (y .exit) ∷ now (u .exit) ∷ now (v .exit) ∷ now (map .exit) ∷ []) ⌝ }
 {
     let w = View {
         width: view_width,
@@ -74,12 +78,13 @@ pub extern "C" fn haythaw_apply_auxiliary_v1(
         chroma_stride,
     };
     let size = Size { width, height };
-    apply_auxiliary::apply_auxiliary_view(
+    map_apply::apply_auxiliary_view(
         Layout::V1,
         size,
         y,
         u,
         v,
+        map,
         rects,
         w,
         view_y,
@@ -88,8 +93,7 @@ pub extern "C" fn haythaw_apply_auxiliary_v1(
     ).number
 }
 
-// The auxiliary view of layout V2 by the 16 rule: the chroma that the main view leaves out, within the blocks that the rectangles touch; Y is lent and
-// never written. 0, 1, 7, 3 or 4.
+// The auxiliary view of layout V2 by the 16 rule, W being the view's width rounded up to 16; all else as above.
 #[no_mangle]
 pub extern "C" fn haythaw_apply_auxiliary_v2(
     width: u16,
@@ -97,6 +101,7 @@ pub extern "C" fn haythaw_apply_auxiliary_v2(
     y: &mut [u8],
     u: &mut [u8],
     v: &mut [u8],
+    map: &mut [u8],
     rects: &[u16],
     view_width: u16,
     view_height: u16,
@@ -109,7 +114,8 @@ pub extern "C" fn haythaw_apply_auxiliary_v2(
     ensures { λ r. ⌜ HaythawApplyAuxiliaryOutcome
         (layoutOf (AsV2 To16) width «view_width») (sizeOf width height) (sizesOf «view_width» «view_height» «luma_stride» «chroma_stride»)
         (now (rects .entry)) (now («view_y» .entry)) (now («view_u» .entry)) (now («view_v» .entry))
-        (now (y .entry)) (now (u .entry)) (now (v .entry)) r (now (y .exit) ∷ now (u .exit) ∷ now (v .exit) ∷ []) ⌝ }
+        (now (y .entry)) (now (u .entry)) (now (v .entry)) (now (map .entry))
+        r (now (y .exit) ∷ now (u .exit) ∷ now (v .exit) ∷ now (map .exit) ∷ []) ⌝ }
 {
     let w = View {
         width: view_width,
@@ -119,12 +125,13 @@ pub extern "C" fn haythaw_apply_auxiliary_v2(
     };
     let size = Size { width, height };
     let layout = layout::layout_of(Way::AsV2(WidthRule::To16), width, view_width);
-    apply_auxiliary::apply_auxiliary_view(
+    map_apply::apply_auxiliary_view(
         layout,
         size,
         y,
         u,
         v,
+        map,
         rects,
         w,
         view_y,
@@ -141,6 +148,7 @@ pub extern "C" fn haythaw_apply_auxiliary_v2_32(
     y: &mut [u8],
     u: &mut [u8],
     v: &mut [u8],
+    map: &mut [u8],
     rects: &[u16],
     view_width: u16,
     view_height: u16,
@@ -153,7 +161,8 @@ pub extern "C" fn haythaw_apply_auxiliary_v2_32(
     ensures { λ r. ⌜ HaythawApplyAuxiliaryOutcome
         (layoutOf (AsV2 To32) width «view_width») (sizeOf width height) (sizesOf «view_width» «view_height» «luma_stride» «chroma_stride»)
         (now (rects .entry)) (now («view_y» .entry)) (now («view_u» .entry)) (now («view_v» .entry))
-        (now (y .entry)) (now (u .entry)) (now (v .entry)) r (now (y .exit) ∷ now (u .exit) ∷ now (v .exit) ∷ []) ⌝ }
+        (now (y .entry)) (now (u .entry)) (now (v .entry)) (now (map .entry))
+        r (now (y .exit) ∷ now (u .exit) ∷ now (v .exit) ∷ now (map .exit) ∷ []) ⌝ }
 {
     let w = View {
         width: view_width,
@@ -163,12 +172,13 @@ pub extern "C" fn haythaw_apply_auxiliary_v2_32(
     };
     let size = Size { width, height };
     let layout = layout::layout_of(Way::AsV2(WidthRule::To32), width, view_width);
-    apply_auxiliary::apply_auxiliary_view(
+    map_apply::apply_auxiliary_view(
         layout,
         size,
         y,
         u,
         v,
+        map,
         rects,
         w,
         view_y,
@@ -185,6 +195,7 @@ pub extern "C" fn haythaw_apply_auxiliary_v2_exact(
     y: &mut [u8],
     u: &mut [u8],
     v: &mut [u8],
+    map: &mut [u8],
     rects: &[u16],
     view_width: u16,
     view_height: u16,
@@ -197,7 +208,8 @@ pub extern "C" fn haythaw_apply_auxiliary_v2_exact(
     ensures { λ r. ⌜ HaythawApplyAuxiliaryOutcome
         (exactLayoutOf width) (sizeOf width height) (sizesOf «view_width» «view_height» «luma_stride» «chroma_stride»)
         (now (rects .entry)) (now («view_y» .entry)) (now («view_u» .entry)) (now («view_v» .entry))
-        (now (y .entry)) (now (u .entry)) (now (v .entry)) r (now (y .exit) ∷ now (u .exit) ∷ now (v .exit) ∷ []) ⌝ }
+        (now (y .entry)) (now (u .entry)) (now (v .entry)) (now (map .entry))
+        r (now (y .exit) ∷ now (u .exit) ∷ now (v .exit) ∷ now (map .exit) ∷ []) ⌝ }
 {
     let w = View {
         width: view_width,
@@ -207,12 +219,13 @@ pub extern "C" fn haythaw_apply_auxiliary_v2_exact(
     };
     let size = Size { width, height };
     let layout = layout::exact_layout(width);
-    apply_auxiliary::apply_auxiliary_view(
+    map_apply::apply_auxiliary_view(
         layout,
         size,
         y,
         u,
         v,
+        map,
         rects,
         w,
         view_y,

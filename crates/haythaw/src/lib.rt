@@ -5,9 +5,9 @@
 // row is its place in the plane that the caller lent, since a slice cannot be returned over this boundary.
 pub mod avc444_calls; // the AVC444 payload
 pub mod colour_calls; // for the runs that compare the port with its original, in no header
-pub mod apply_calls; // views into a picture
+pub mod apply_calls; // views into a picture and its map
 pub mod to_rgba_calls; // RGBA of a picture and of a view
 pub mod annex_b_calls; // the form of an H.264 payload
-pub mod picture_calls; // a 4:4:4 picture, fresh or of RGBA pixels
+pub mod picture_calls; // a 4:4:4 picture and its map, fresh or of RGBA pixels
 pub mod split_calls; // both views of a picture
 pub mod view_calls; // a 4:2:0 view and its rows

@@ -1,12 +1,10 @@
-// A 4:4:4 picture over three lent planes: its size in bytes, a fresh one, and one of RGBA pixels by either edge rule.
+// A 4:4:4 picture over three lent planes and its map: their sizes in bytes, a fresh one, and one of RGBA pixels by either edge rule.
 ghost use mathlib.Core.Path.{_≡_};
 ghost use mathlib.Core.List.{[], _∷_};
-ghost use lib.ListN.{length};
-ghost use Rattle.lent.specs.Outcome.{Outcome};
 ghost use Rattle.picture.specs.Sizes.{allocationSizeOf};
-ghost use Rattle.picture.specs.New.{newNumberOf, newBuffersOf};
-ghost use Rattle.from_rgba.specs.FromRgba.{fromNumberOf, fromBuffersOf};
 ghost use Rattle.from_rgba.specs.declared.edges.Edge.the-variants.{Fresh, Filled};
+ghost use Rattle.map.specs.Map.{mapSizeOf};
+ghost use Rattle.haythaw.specs.Made.{HaythawNewOutcome, HaythawFromRgbaOutcome};
 ghost use Rattle.haythaw.specs.Sizes.{sizeOf};
 use picture::Size;
 
@@ -18,7 +16,15 @@ pub extern "C" fn haythaw_allocation_size(width: u16, height: u16) -> usize
     picture::allocation_size(Size { width, height })
 }
 
-// A fresh picture: Y 0, U and V 128. 0, or 1.
+// Bytes of the map.
+#[no_mangle]
+pub extern "C" fn haythaw_map_size(width: u16, height: u16) -> usize
+    ensures { λ r. ⌜ r ≡ mapSizeOf (sizeOf width height) ⌝ }
+{
+    map::map_size(Size { width, height })
+}
+
+// A fresh picture: Y 0, U and V 128, and the map 0. 0, or 1.
 #[no_mangle]
 pub extern "C" fn haythaw_new(
     width: u16,
@@ -26,16 +32,15 @@ pub extern "C" fn haythaw_new(
     y: &mut [u8],
     u: &mut [u8],
     v: &mut [u8],
+    map: &mut [u8],
 ) -> u32
-    ensures { λ r. ⌜ Outcome (newNumberOf (sizeOf width height)
-        (length (now (y .entry))) (length (now (u .entry))) (length (now (v .entry))))
-        (newBuffersOf (sizeOf width height) (now (y .entry)) (now (u .entry)) (now (v .entry)))
-        r (now (y .exit) ∷ now (u .exit) ∷ now (v .exit) ∷ []) ⌝ }
+    ensures { λ r. ⌜ HaythawNewOutcome (sizeOf width height) (now (y .entry)) (now (u .entry)) (now (v .entry)) (now (map .entry))
+        r (now (y .exit) ∷ now (u .exit) ∷ now (v .exit) ∷ now (map .exit) ∷ []) ⌝ }
 {
-    picture::new(Size { width, height }, y, u, v).number
+    map_picture::new(Size { width, height }, y, u, v, map).number
 }
 
-// The picture of width x height RGBA pixels, its edge filled. 0, 2 or 1.
+// The picture of width x height RGBA pixels, its edge filled, and the map 2. 0, 2 or 1.
 #[no_mangle]
 pub extern "C" fn haythaw_from_rgba(
     rgba: &[u8],
@@ -44,13 +49,13 @@ pub extern "C" fn haythaw_from_rgba(
     y: &mut [u8],
     u: &mut [u8],
     v: &mut [u8],
+    map: &mut [u8],
 ) -> u32
-    ensures { λ r. ⌜ Outcome (fromNumberOf (sizeOf width height) (length (now (rgba .entry)))
-        (length (now (y .entry))) (length (now (u .entry))) (length (now (v .entry))))
-        (fromBuffersOf Filled (now (rgba .entry)) (sizeOf width height) (now (y .entry)) (now (u .entry)) (now (v .entry)))
-        r (now (y .exit) ∷ now (u .exit) ∷ now (v .exit) ∷ []) ⌝ }
+    ensures { λ r. ⌜ HaythawFromRgbaOutcome Filled (now (rgba .entry)) (sizeOf width height)
+        (now (y .entry)) (now (u .entry)) (now (v .entry)) (now (map .entry))
+        r (now (y .exit) ∷ now (u .exit) ∷ now (v .exit) ∷ now (map .exit) ∷ []) ⌝ }
 {
-    from_rgba::from_rgba(rgba, Size { width, height }, y, u, v).number
+    map_picture::from_rgba(rgba, Size { width, height }, y, u, v, map).number
 }
 
 // The same with padding as in a fresh picture, as the Rust has it. 0, 2 or 1.
@@ -62,11 +67,11 @@ pub extern "C" fn haythaw_from_rgba_rust(
     y: &mut [u8],
     u: &mut [u8],
     v: &mut [u8],
+    map: &mut [u8],
 ) -> u32
-    ensures { λ r. ⌜ Outcome (fromNumberOf (sizeOf width height) (length (now (rgba .entry)))
-        (length (now (y .entry))) (length (now (u .entry))) (length (now (v .entry))))
-        (fromBuffersOf Fresh (now (rgba .entry)) (sizeOf width height) (now (y .entry)) (now (u .entry)) (now (v .entry)))
-        r (now (y .exit) ∷ now (u .exit) ∷ now (v .exit) ∷ []) ⌝ }
+    ensures { λ r. ⌜ HaythawFromRgbaOutcome Fresh (now (rgba .entry)) (sizeOf width height)
+        (now (y .entry)) (now (u .entry)) (now (v .entry)) (now (map .entry))
+        r (now (y .exit) ∷ now (u .exit) ∷ now (v .exit) ∷ now (map .exit) ∷ []) ⌝ }
 {
-    from_rgba::from_rgba_rust(rgba, Size { width, height }, y, u, v).number
+    map_picture::from_rgba_rust(rgba, Size { width, height }, y, u, v, map).number
 }

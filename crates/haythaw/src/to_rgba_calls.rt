@@ -1,16 +1,16 @@
 // Both conversions to RGBA: of a rectangle of a picture, and of a view.
 ghost use mathlib.Core.List.{[], _∷_};
 ghost use Rattle.colour.specs.Colour.{reverseOf};
-ghost use Rattle.to_rgba.specs.Picture.{ToRgbaOutcome};
 ghost use Rattle.to_rgba.specs.View.{ViewToRgbaOutcome};
+ghost use Rattle.map_picture.specs.Shown.{MapToRgbaOutcome};
 ghost use Rattle.haythaw.specs.Sizes.{sizesOf, sizeOf, rectOf};
+use map_picture::Pixels;
 use picture::Size;
-use to_rgba::Pixels;
 use to_rgba::Rect;
 use view::View;
 
-// The rectangle of the picture, clipped to it, as RGBA, how many bytes were written, and how many samples of U and of V were filtered; or 1
-// or 6.
+// The rectangle of the picture, clipped to it, as RGBA, how many bytes were written, how many samples of U and of V were filtered, and how
+// many pixels are stale; or 1 or 6.
 #[no_mangle]
 pub extern "C" fn haythaw_to_rgba(
     width: u16,
@@ -18,13 +18,14 @@ pub extern "C" fn haythaw_to_rgba(
     y: &[u8],
     u: &[u8],
     v: &[u8],
+    map: &[u8],
     left: u16,
     top: u16,
     right: u16,
     bottom: u16,
     out: &mut [u8],
 ) -> Pixels
-    ensures { λ r. ⌜ ToRgbaOutcome (sizeOf width height) (now (y .entry)) (now (u .entry)) (now (v .entry))
+    ensures { λ r. ⌜ MapToRgbaOutcome (sizeOf width height) (now (y .entry)) (now (u .entry)) (now (v .entry)) (now (map .entry))
         (rectOf left top right bottom) (now (out .entry)) r (now (out .exit) ∷ []) ⌝ }
 {
     let rect = Rect {
@@ -33,7 +34,7 @@ pub extern "C" fn haythaw_to_rgba(
         right,
         bottom,
     };
-    to_rgba::to_rgba(Size { width, height }, y, u, v, rect, out)
+    map_picture::to_rgba(Size { width, height }, y, u, v, map, rect, out)
 }
 
 // The view as RGBA, and how many bytes were written; or 3, 4 or 6.

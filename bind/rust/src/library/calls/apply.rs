@@ -1,4 +1,4 @@
-//! Views into a picture.
+//! Views into a picture and its map.
 
 use super::{Size, View};
 
@@ -16,6 +16,8 @@ macro_rules! applying {
                 u_count: usize,
                 v: *mut u8,
                 v_count: usize,
+                map: *mut u8,
+                map_count: usize,
                 rects: *const u16,
                 rects_count: usize,
                 view_width: u16,
@@ -35,11 +37,11 @@ macro_rules! applying {
         #[inline]
         pub fn $name(
             Size { width, height }: Size,
-            [y, u, v]: [&mut [u8]; 3],
+            [y, u, v, map]: [&mut [u8]; 4],
             rects: &[u16],
             view: View<'_>,
         ) -> u32 {
-            // SAFETY: each pointer and count are of one slice, and the three that are written are borrowed for that alone.
+            // SAFETY: each pointer and count are of one slice, and the four that are written are borrowed for that alone.
             unsafe {
                 $symbol(
                     width,
@@ -50,6 +52,8 @@ macro_rules! applying {
                     u.len(),
                     v.as_mut_ptr(),
                     v.len(),
+                    map.as_mut_ptr(),
+                    map.len(),
                     rects.as_ptr(),
                     rects.len(),
                     view.width,

@@ -1,4 +1,4 @@
-//! A 4:4:4 picture in the planes Y, U and V.
+//! A 4:4:4 picture in the planes Y, U and V, and its map of stale colour.
 
 /// A picture's width and height.
 #[derive(Debug, Clone, Copy, PartialEq, Eq)]
@@ -11,6 +11,8 @@ pub struct Size {
 unsafe extern "C" {
     // SAFETY: it takes numbers by value, and is proved to answer for all of them.
     safe fn haythaw_allocation_size(width: u16, height: u16) -> usize;
+    // SAFETY: the same.
+    safe fn haythaw_map_size(width: u16, height: u16) -> usize;
     fn haythaw_new(
         width: u16,
         height: u16,
@@ -20,6 +22,8 @@ unsafe extern "C" {
         u_count: usize,
         v: *mut u8,
         v_count: usize,
+        map: *mut u8,
+        map_count: usize,
     ) -> u32;
 }
 
@@ -29,11 +33,30 @@ pub fn allocation_size(Size { width, height }: Size) -> usize {
     haythaw_allocation_size(width, height)
 }
 
-/// A fresh picture. 0 or 1.
+/// Bytes of the map.
 #[inline]
-pub fn new(Size { width, height }: Size, [y, u, v]: [&mut [u8]; 3]) -> u32 {
-    // SAFETY: each pointer and count are of one slice, and all three are borrowed to be written.
-    unsafe { haythaw_new(width, height, y.as_mut_ptr(), y.len(), u.as_mut_ptr(), u.len(), v.as_mut_ptr(), v.len()) }
+pub fn map_size(Size { width, height }: Size) -> usize {
+    haythaw_map_size(width, height)
+}
+
+/// A fresh picture in the planes Y, U and V, and its map. 0 or 1.
+#[inline]
+pub fn new(Size { width, height }: Size, [y, u, v, map]: [&mut [u8]; 4]) -> u32 {
+    // SAFETY: each pointer and count are of one slice, and all four are borrowed to be written.
+    unsafe {
+        haythaw_new(
+            width,
+            height,
+            y.as_mut_ptr(),
+            y.len(),
+            u.as_mut_ptr(),
+            u.len(),
+            v.as_mut_ptr(),
+            v.len(),
+            map.as_mut_ptr(),
+            map.len(),
+        )
+    }
 }
 
 /// Declares functions of the library that make a picture of RGBA pixels, and each in safe Rust.
@@ -52,13 +75,15 @@ macro_rules! making {
                 u_count: usize,
                 v: *mut u8,
                 v_count: usize,
+                map: *mut u8,
+                map_count: usize,
             ) -> u32;)*
         }
 
         $($(#[$about])*
         #[inline]
-        pub fn $name(rgba: &[u8], Size { width, height }: Size, [y, u, v]: [&mut [u8]; 3]) -> u32 {
-            // SAFETY: each pointer and count are of one slice, and the three that are written are borrowed for that alone.
+        pub fn $name(rgba: &[u8], Size { width, height }: Size, [y, u, v, map]: [&mut [u8]; 4]) -> u32 {
+            // SAFETY: each pointer and count are of one slice, and the four that are written are borrowed for that alone.
             unsafe {
                 $symbol(
                     rgba.as_ptr(),
@@ -71,6 +96,8 @@ macro_rules! making {
                     u.len(),
                     v.as_mut_ptr(),
                     v.len(),
+                    map.as_mut_ptr(),
+                    map.len(),
                 )
             }
         })*

@@ -2,8 +2,8 @@
 
 use super::{Answer, Size, View};
 
-/// What picture to RGBA answers: 0 or the number of a refusal, how many bytes were written, and how many samples of U and of V the filter
-/// replaced.
+/// What picture to RGBA answers: 0 or the number of a refusal, how many bytes were written, how many samples of U and of V the filter
+/// replaced, and how many pixels lie in blocks that the map does not call complete.
 #[repr(C)]
 #[derive(Debug, Clone, Copy, PartialEq, Eq)]
 pub struct Pixels {
@@ -11,6 +11,7 @@ pub struct Pixels {
     pub count: usize,
     pub filtered_u: usize,
     pub filtered_v: usize,
+    pub stale: usize,
 }
 
 // The names and the types are those of crates/haythaw.
@@ -24,6 +25,8 @@ unsafe extern "C" {
         u_count: usize,
         v: *const u8,
         v_count: usize,
+        map: *const u8,
+        map_count: usize,
         left: u16,
         top: u16,
         right: u16,
@@ -47,9 +50,9 @@ unsafe extern "C" {
     ) -> Answer;
 }
 
-/// The rectangle (left, top, right, bottom) of a picture. 0, 1 or 6.
+/// The rectangle (left, top, right, bottom) of a picture in the planes Y, U and V, with its map. 0, 1 or 6.
 #[inline]
-pub fn to_rgba(Size { width, height }: Size, [y, u, v]: [&[u8]; 3], rect: [u16; 4], out: &mut [u8]) -> Pixels {
+pub fn to_rgba(Size { width, height }: Size, [y, u, v, map]: [&[u8]; 4], rect: [u16; 4], out: &mut [u8]) -> Pixels {
     let [left, top, right, bottom] = rect;
     // SAFETY: each pointer and count are of one slice, and the one that is written is borrowed for that alone.
     unsafe {
@@ -62,6 +65,8 @@ pub fn to_rgba(Size { width, height }: Size, [y, u, v]: [&[u8]; 3], rect: [u16; 
             u.len(),
             v.as_ptr(),
             v.len(),
+            map.as_ptr(),
+            map.len(),
             left,
             top,
             right,

@@ -8,8 +8,8 @@ use Rattle.haythaw.proofs.apply_calls.haythaw_apply_auxiliary_v2.Statem
 use Rattle.haythaw.proofs.apply_calls.haythaw_apply_auxiliary_v2.Tie as tie
 
 -- the call, seen from the return
-abbrev call : tie.After-slice-known6 → tie.After-apply-auxiliary-view
-call c = c .before .before .before .before .before .before
+abbrev call : tie.After-slice-known8 → tie.After-apply-auxiliary-view
+call c = c .before .before .before .before .before .before .before .before
 
 layout-of-requires : tie.Need-layout-of-requires
 layout-of-requires c κs = tt
@@ -26,12 +26,15 @@ same-length-2 c = call c .apply-auxiliary-view .kept .1 .1 .1 .0
 same-length-3 : tie.Need-same-length-3
 same-length-3 c = call c .apply-auxiliary-view .kept .1 .1 .1 .1 .0
 
+same-length-4 : tie.Need-same-length-4
+same-length-4 c = call c .apply-auxiliary-view .kept .1 .1 .1 .1 .1 .0
+
 returns : tie.Need-returns
 returns c =
-    let l = call c .before .before .before .before in
-    let a = l .before .before .before .before .before .before .before .before .args in
+    let l = call c .before .before .before .before .before in
+    let a = l .before .before .before .before .before .before .before .before .before .args in
     auxiliary-number (l .layout-of .ensures) (sizeOf (a .width) (a .height)) (sizesOf (a .view-width) (a .view-height) (a .luma-stride) (a .chroma-stride))
-    (now (a .rects)) (now (a .view-y)) (now (a .view-u)) (now (a .view-v)) (now (a .y)) (now (a .u)) (now (a .v)) (call c .apply-auxiliary-view .ensures)
+    (now (a .rects)) (now (a .view-y)) (now (a .view-u)) (now (a .view-v)) (now (a .y)) (now (a .u)) (now (a .v)) (now (a .map)) (call c .apply-auxiliary-view .ensures)
 
 pub haythaw-apply-auxiliary-v2-spec : {M : Type 1} → statement M
-haythaw-apply-auxiliary-v2-spec = tie.close (tie.spec layout-of-requires apply-auxiliary-view-requires same-length same-length-2 same-length-3 returns)
+haythaw-apply-auxiliary-v2-spec = tie.close (tie.spec layout-of-requires apply-auxiliary-view-requires same-length same-length-2 same-length-3 same-length-4 returns)

@@ -5,8 +5,8 @@ use Rattle.haythaw.proofs.picture_calls.haythaw_from_rgba_rust.Statemen
 use Rattle.haythaw.proofs.picture_calls.haythaw_from_rgba_rust.Tie as tie
 
 -- the call, seen from the return
-abbrev call : tie.After-slice-known6 → tie.After-from-rgba-rust
-call c = c .before .before .before .before .before .before
+abbrev call : tie.After-slice-known8 → tie.After-from-rgba-rust
+call c = c .before .before .before .before .before .before .before .before
 
 from-rgba-rust-requires : tie.Need-from-rgba-rust-requires
 from-rgba-rust-requires c κs = tt
@@ -20,8 +20,11 @@ same-length-2 c = call c .from-rgba-rust .kept .1 .1 .1 .0
 same-length-3 : tie.Need-same-length-3
 same-length-3 c = call c .from-rgba-rust .kept .1 .1 .1 .1 .0
 
+same-length-4 : tie.Need-same-length-4
+same-length-4 c = call c .from-rgba-rust .kept .1 .1 .1 .1 .1 .0
+
 returns : tie.Need-returns
 returns c = number-alone (call c .from-rgba-rust .ensures)
 
 pub haythaw-from-rgba-rust-spec : {M : Type 1} → statement M
-haythaw-from-rgba-rust-spec = tie.close (tie.spec from-rgba-rust-requires same-length same-length-2 same-length-3 returns)
+haythaw-from-rgba-rust-spec = tie.close (tie.spec from-rgba-rust-requires same-length same-length-2 same-length-3 same-length-4 returns)

@@ -5,8 +5,8 @@ use Rattle.haythaw.proofs.picture_calls.haythaw_new.Statement.{statemen
 use Rattle.haythaw.proofs.picture_calls.haythaw_new.Tie as tie
 
 -- the call, seen from the return
-abbrev call : tie.After-slice-known6 → tie.After-new
-call c = c .before .before .before .before .before .before
+abbrev call : tie.After-slice-known8 → tie.After-new
+call c = c .before .before .before .before .before .before .before .before
 
 new-requires : tie.Need-new-requires
 new-requires c κs = tt
@@ -20,8 +20,11 @@ same-length-2 c = call c .new .kept .1 .1 .0
 same-length-3 : tie.Need-same-length-3
 same-length-3 c = call c .new .kept .1 .1 .1 .0
 
+same-length-4 : tie.Need-same-length-4
+same-length-4 c = call c .new .kept .1 .1 .1 .1 .0
+
 returns : tie.Need-returns
 returns c = number-alone (call c .new .ensures)
 
 pub haythaw-new-spec : {M : Type 1} → statement M
-haythaw-new-spec = tie.close (tie.spec new-requires same-length same-length-2 same-length-3 returns)
+haythaw-new-spec = tie.close (tie.spec new-requires same-length same-length-2 same-length-3 same-length-4 returns)
