@@ -1,0 +1,2 @@
+-- What a list of calls says of the map.
+pub mod History
