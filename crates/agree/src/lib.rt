@@ -2,7 +2,8 @@
 // demand's ways are V1 and V2, by either rule of its width; any two will do.
 //
 // Both then hold its luma at each pixel inside a rectangle and its chroma in each widened rectangle, and all other luma of their pixels
-// and all other chroma is as before (agree_law/specs/Agrees.antt). `both` finds the first number that a step of either walk would give before
+// and all other chroma is as before; the map of each has 2 in each block of a widened rectangle, and every other block is as before
+// (agree_law/specs/Agrees.antt). `both` finds the first number that a step of either walk would give before
 // it writes anything; a refusal changes no byte. Number and every lent byte are equations (agree_law/specs/Both.antt), and 0 comes with
 // the theorem of both.
 pub mod one; // one way's calls
@@ -24,21 +25,23 @@ fn both_number(
     main: PlaneLengths,
     auxiliary: PlaneLengths,
     first: PlaneLengths,
+    first_nk: usize,
     second: PlaneLengths,
+    second_nk: usize,
     nr: usize,
 ) -> u32
-    ensures { λ r. ⌜ r ≡ firstOf (firstOf (splitNumberOf one size from main auxiliary) (earlierNumberOf size first nr))
-        (firstOf (splitNumberOf other size from main auxiliary) (earlierNumberOf size second nr)) ⌝ }
+    ensures { λ r. ⌜ r ≡ firstOf (firstOf (splitNumberOf one size from main auxiliary) (earlierNumberOf size first «first_nk» nr))
+        (firstOf (splitNumberOf other size from main auxiliary) (earlierNumberOf size second «second_nk» nr)) ⌝ }
 {
-    let number = crate::one::through_number(one, size, from, main, auxiliary, first, nr);
+    let number = crate::one::through_number(one, size, from, main, auxiliary, first, first_nk, nr);
     if number != 0 {
         return number;
     }
-    crate::one::through_number(other, size, from, main, auxiliary, second, nr)
+    crate::one::through_number(other, size, from, main, auxiliary, second, second_nk, nr)
 }
 
-// Sent one way onto the first earlier picture, then the other way onto the second, over one list. The views' six buffers are the caller's,
-// and are used for both.
+// Sent one way onto the first earlier picture, then the other way onto the second, over one list, each with its map. The views' six buffers
+// are the caller's, and are used for both.
 pub fn both(
     one: Way,
     other: Way,
@@ -56,15 +59,19 @@ pub fn both(
     first_y: &mut [u8],
     first_u: &mut [u8],
     first_v: &mut [u8],
+    first_map: &mut [u8],
     second_y: &mut [u8],
     second_u: &mut [u8],
     second_v: &mut [u8],
+    second_map: &mut [u8],
 ) -> lent::Answer
     ensures { λ r. ⌜ BothOutcome one other size (now (rects .entry)) (atEntry y u v)
         (atEntry «main_y» «main_u» «main_v») (atEntry «auxiliary_y» «auxiliary_u» «auxiliary_v»)
-        (atEntry «first_y» «first_u» «first_v») (atEntry «second_y» «second_u» «second_v») r
+        (atEntry «first_y» «first_u» «first_v») (now («first_map» .entry))
+        (atEntry «second_y» «second_u» «second_v») (now («second_map» .entry)) r
         (atExit «main_y» «main_u» «main_v») (atExit «auxiliary_y» «auxiliary_u» «auxiliary_v»)
-        (atExit «first_y» «first_u» «first_v») (atExit «second_y» «second_u» «second_v») ⌝ }
+        (atExit «first_y» «first_u» «first_v») (now («first_map» .exit))
+        (atExit «second_y» «second_u» «second_v») (now («second_map» .exit)) ⌝ }
 {
     let from = PlaneLengths {
         y: y.len(),
@@ -99,7 +106,9 @@ pub fn both(
         main,
         auxiliary,
         first,
+        first_map.len(),
         second,
+        second_map.len(),
         rects.len(),
     );
     if number != 0 {
@@ -121,6 +130,7 @@ pub fn both(
         first_y,
         first_u,
         first_v,
+        first_map,
     );
     crate::one::through(
         other,
@@ -138,5 +148,6 @@ pub fn both(
         second_y,
         second_u,
         second_v,
+        second_map,
     )
 }

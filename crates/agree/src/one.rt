@@ -1,23 +1,27 @@
 // One walk: a picture is split in the way that it is sent, and its views go into an earlier picture over a list of rectangles, by the calls themselves.
 //
 // Whatever the way, the earlier picture then holds the picture's luma at each pixel inside a rectangle and its chroma in each widened
-// rectangle, and all other luma of its pixels and all other chroma is as before (agree_law/specs/Agrees.antt). `through` finds the first
-// number that a step would give before it writes anything; a refusal changes no byte. Number and every lent byte are equations
-// (agree_law/specs/Through.antt), and 0 comes with the theorem.
+// rectangle, and all other luma of its pixels and all other chroma is as before; its map of stale colour has 2 in each block of a widened
+// rectangle, and every other block is as before (agree_law/specs/Agrees.antt). `through` finds the first number that a step would give before
+// it writes anything; a refusal changes no byte. Number and every lent byte are equations (agree_law/specs/Through.antt), and 0 comes with
+// the theorem.
 ghost use mathlib.Core.Path.{_≡_};
 ghost use Rattle.split.specs.Split.{atEntry, atExit, splitNumberOf};
 ghost use Rattle.agree_law.specs.Through.{viewIn, firstOf, earlierNumberOf, ThroughOutcome};
-use apply_auxiliary::apply_auxiliary_view;
 use layout::Way;
 use picture::Size;
 use split::PlaneLengths;
 use view::View;
 
-// What the apply calls can refuse: 1, or 7. The views of a split are neither narrow nor short, so 3 and 4 cannot arise.
-fn earlier_number(size: Size, earlier: PlaneLengths, nr: usize) -> u32
-    ensures { λ r. ⌜ r ≡ earlierNumberOf size earlier nr ⌝ }
+// What the apply calls can refuse: 1, which covers the map, its length being nk, or 7. The views of a split are neither narrow nor short, so
+// 3 and 4 cannot arise.
+fn earlier_number(size: Size, earlier: PlaneLengths, nk: usize, nr: usize) -> u32
+    ensures { λ r. ⌜ r ≡ earlierNumberOf size earlier nk nr ⌝ }
 {
     if picture::planes_short(size, earlier.y, earlier.u, earlier.v) {
+        return 1;
+    }
+    if map::map_short(size, nk) {
         return 1;
     }
     if nr % 4 != 0 {
@@ -34,15 +38,16 @@ pub fn through_number(
     main: PlaneLengths,
     auxiliary: PlaneLengths,
     earlier: PlaneLengths,
+    nk: usize,
     nr: usize,
 ) -> u32
-    ensures { λ r. ⌜ r ≡ firstOf (splitNumberOf way size from main auxiliary) (earlierNumberOf size earlier nr) ⌝ }
+    ensures { λ r. ⌜ r ≡ firstOf (splitNumberOf way size from main auxiliary) (earlierNumberOf size earlier nk nr) ⌝ }
 {
     let number = split::split_number(way, size, from, main, auxiliary);
     if number != 0 {
         return number;
     }
-    earlier_number(size, earlier, nr)
+    earlier_number(size, earlier, nk, nr)
 }
 
 // The size of both views, as a split answers it.
@@ -57,8 +62,8 @@ fn view_of(views: split::Views) -> View
     }
 }
 
-// The picture y, u, v is split this way, and the main view and then the auxiliary view go into the earlier picture qy, qu, qv over
-// the list. The views' six buffers are the caller's.
+// The picture y, u, v is split this way, and the main view and then the auxiliary view go into the earlier picture qy, qu, qv, whose map is
+// q_map, over the list. The views' six buffers are the caller's.
 pub fn through(
     way: Way,
     size: Size,
@@ -75,10 +80,11 @@ pub fn through(
     qy: &mut [u8],
     qu: &mut [u8],
     qv: &mut [u8],
+    q_map: &mut [u8],
 ) -> lent::Answer
     ensures { λ r. ⌜ ThroughOutcome way size (now (rects .entry)) (atEntry y u v)
-        (atEntry «main_y» «main_u» «main_v») (atEntry «auxiliary_y» «auxiliary_u» «auxiliary_v») (atEntry qy qu qv) r
-        (atExit «main_y» «main_u» «main_v») (atExit «auxiliary_y» «auxiliary_u» «auxiliary_v») (atExit qy qu qv) ⌝ }
+        (atEntry «main_y» «main_u» «main_v») (atEntry «auxiliary_y» «auxiliary_u» «auxiliary_v») (atEntry qy qu qv) (now («q_map» .entry)) r
+        (atExit «main_y» «main_u» «main_v») (atExit «auxiliary_y» «auxiliary_u» «auxiliary_v») (atExit qy qu qv) (now («q_map» .exit)) ⌝ }
 {
     let from = PlaneLengths {
         y: y.len(),
@@ -100,7 +106,16 @@ pub fn through(
         u: qu.len(),
         v: qv.len(),
     };
-    let number = through_number(way, size, from, main, auxiliary, earlier, rects.len());
+    let number = through_number(
+        way,
+        size,
+        from,
+        main,
+        auxiliary,
+        earlier,
+        q_map.len(),
+        rects.len(),
+    );
     if number != 0 {
         return lent::Answer { number, count: 0 };
     }
@@ -119,13 +134,14 @@ pub fn through(
     );
     let w = view_of(views);
     let layout = layout::layout_of(way, size.width, w.width);
-    apply_main::apply_main_view(size, qy, qu, qv, rects, w, main_y, main_u, main_v);
-    apply_auxiliary_view(
+    map_apply::apply_main_view(size, qy, qu, qv, q_map, rects, w, main_y, main_u, main_v);
+    map_apply::apply_auxiliary_view(
         layout,
         size,
         qy,
         qu,
         qv,
+        q_map,
         rects,
         w,
         auxiliary_y,

@@ -3,7 +3,7 @@
 -- Assumes nothing.
 use Prim.Native.Nat.{ℕ, _*_, _/_, _<_, _≤_}
 use native.Mathlib.Omega.{arith}
-use mathlib.Core.Path.{_≡_, refl, sym, ap, _∙_}
+use mathlib.Core.Path.{_≡_, refl, sym, ap, _∙_, subst}
 use mathlib.Core.Bool.{Bool, cond, _&&_, and-assoc}
 use mathlib.Core.List.{List}
 use lib.Dec.{ltb}
@@ -24,8 +24,10 @@ use Rattle.layout.specs.declared.WidthRule.{WidthRule}
 use Rattle.layout.specs.declared.WidthRule.the-variants.{To16, To32}
 use Rattle.layout.specs.Maps.{Part, PY, PU, PV, Maps, place, partOf, maps}
 use Rattle.layout.specs.Exists.{side, gives, fed}
+use Rattle.layout.specs.Fed.{Fed}
 use Rattle.layout.proofs.Fed.{maps-fed}
 use Rattle.rects.specs.Rects.{taken, area}
+use Rattle.rects.proofs.Rects.{taken-beside}
 use Rattle.apply_main.specs.Main.{mainLuma, mainChroma, halved, chromaAfter}
 use Rattle.apply_auxiliary_rows.specs.Rows.{partSample, auxiliarySource}
 use Rattle.apply_auxiliary.specs.Auxiliary.{auxiliaryIn, auxiliaryRule, auxiliaryAfter}
@@ -33,11 +35,11 @@ use Rattle.split_views.specs.Fits.{Room}
 use Rattle.split.specs.Split.{Planes, splitLayoutOf, splitWideOf, pickChroma, mainSample, auxiliarySample, viewAfter}
 use Rattle.split.proofs.Calls.{wide-enough}
 use Rattle.split.proofs.Before.{seen-inside}
-use Rattle.agree_law.specs.Agrees.{pictureOf, widened, Agrees}
+use Rattle.agree_law.specs.Agrees.{pictureOf, widened, Agrees, Completed}
 use Rattle.agree_law.specs.Steps.{ViewSamples, seenPicture, atSpot, mainView, auxiliaryView, Extends, Steps}
-use Rattle.agree_law.specs.Through.{threeOf, viewOf, appliedLayoutOf, mainViewOf, auxiliaryViewOf, withMain, withAuxiliary, throughOf, throughNumberOf, Lent}
-use Rattle.agree_law.proofs.Inside.{taken-beside}
+use Rattle.agree_law.specs.Through.{threeOf, viewOf, appliedLayoutOf, mainViewOf, auxiliaryViewOf, withMain, withAuxiliary, throughOf, throughMapOf, throughNumberOf, Lent}
 use Rattle.agree_law.proofs.Agree.{agrees}
+use Rattle.agree_law.proofs.Complete.{completed}
 use Rattle.agree_law.proofs.Number.{through-0-exactly}
 
 -- a sample of a plane that was painted
@@ -88,7 +90,7 @@ auxiliary-taken : (l : Layout) (w : View) (z : Size) (rects : List ℕ) (r c : �
 unfolding auxiliaryIn fed
 auxiliary-taken l w z rects r c = taken-beside (auxiliaryRule l z w) (area z) (gives (maps l) (w .width) (w .height) r c) rects r c (λ left top right bottom. refl)
 
-module _ (t : Way) (z : Size) (rects : List ℕ) (p m a q : Planes) (f : Lent t z rects p m a q) where
+module _ (t : Way) (z : Size) (rects : List ℕ) (p m a q : Planes) (k : List ℕ) (f : Lent t z rects p m a q k) where
   abbrev v : Planes
   v = mainViewOf t z p m
 
@@ -130,20 +132,20 @@ module _ (t : Way) (z : Size) (rects : List ℕ) (p m a q : Planes) (f : Lent t 
 
   main-chroma : (k : Chroma) (r c : ℕ) → r < rowsOf z → c < strideOf z
       → pictureOf z mid .chroma k r c ≡ cond (widened z rects r c && (ltb r (rowsOf z) && ltb c (splitWideOf t z))) (main (partOf k) (r / 2) (c / 2)) (pictureOf z q .chroma k r c)
-  main-chroma CU r c hr hc = main-plane CU (v .u) (q .u) r c hr hc (f .earlier .u-fits)
-  main-chroma CV r c hr hc = main-plane CV (v .v) (q .v) r c hr hc (f .earlier .v-fits)
+  main-chroma CU r c hr hc = main-plane CU (v .u) (q .u) r c hr hc (f .earlier .planes .u-fits)
+  main-chroma CV r c hr hc = main-plane CV (v .v) (q .v) r c hr hc (f .earlier .planes .v-fits)
 
   auxiliary-chroma : (k : Chroma) (r c : ℕ) → r < rowsOf z → c < strideOf z
       → pictureOf z after .chroma k r c
       ≡ cond (widened z rects r c && gives held (splitWideOf t z) (rowsOf z) r c) (atSpot auxiliary (held .spot (place k r c))) (pictureOf z mid .chroma k r c)
-  auxiliary-chroma CU r c hr hc = auxiliary-plane CU (mid .u) r c hr hc (rw length-painted (f .earlier .u-fits))
-  auxiliary-chroma CV r c hr hc = auxiliary-plane CV (mid .v) r c hr hc (rw length-painted (f .earlier .v-fits))
+  auxiliary-chroma CU r c hr hc = auxiliary-plane CU (mid .u) r c hr hc (rw length-painted (f .earlier .planes .u-fits))
+  auxiliary-chroma CV r c hr hc = auxiliary-plane CV (mid .v) r c hr hc (rw length-painted (f .earlier .planes .v-fits))
 
   steps : Steps held (viewOf t z) z rects (seenPicture z p) (pictureOf z q) (pictureOf z mid) (pictureOf z after) main auxiliary
   steps = record {
     main-is = λ s r c hr hc. written t z (mainSample (strideOf z) p) m (f .main) s r c hr hc ∙ main-written z p s r c;
     auxiliary-is = λ s r c hr hc. written t z (auxiliarySample (splitLayoutOf t z) (strideOf z) (p .u) (p .v)) a (f .auxiliary) s r c hr hc ∙ auxiliary-written (splitLayoutOf t z) z p s r c;
-    main-luma = λ r c hr hc. sample-painted (strideOf z) (rowsOf z) (taken (mainLuma z (viewOf t z)) rects) (sample (v .y) (splitWideOf t z)) (q .y) r c hr hc (f .earlier .y-fits);
+    main-luma = λ r c hr hc. sample-painted (strideOf z) (rowsOf z) (taken (mainLuma z (viewOf t z)) rects) (sample (v .y) (splitWideOf t z)) (q .y) r c hr hc (f .earlier .planes .y-fits);
     main-chroma = main-chroma;
     auxiliary-luma = λ r c hr hc. refl;
     auxiliary-chroma = auxiliary-chroma;
@@ -156,13 +158,27 @@ module _ (t : Way) (z : Size) (rects : List ℕ) (p m a q : Planes) (f : Lent t 
       agrees held (viewOf t z) z rects (pictureOf z p) (seenPicture z p) (pictureOf z q) (pictureOf z mid) (pictureOf z after) main auxiliary
       (maps-fed t (z .width) (strideOf z) (rowsOf z) (omega arith) (omega arith)) (wide-enough t z .enough) (omega arith) (goes-on z p) steps
 
-pub through-agrees : (t : Way) (z : Size) (rects : List ℕ) (p m a q : Planes) → throughNumberOf t z rects p m a q ≡ 0
-    → Agrees z rects (pictureOf z p) (pictureOf z q) (pictureOf z (throughOf t z rects p m a q))
-through-agrees t z rects p m a q none = lent-agrees t z rects p m a q (through-0-exactly t z rects p m a q .0 none)
+  -- and of the map
+  pub lent-completed : Completed z rects k (throughMapOf t z rects k)
+  unfolding throughMapOf
+  lent-completed =
+      completed (appliedLayoutOf t z) (viewOf t z) z rects (wide-enough t z .enough) (omega arith)
+      (subst (λ (l : Layout). Fed (maps l) (splitWideOf t z) (rowsOf z)) (sym (applied-layout t z)) (maps-fed t (z .width) (strideOf z) (rowsOf z) (omega arith) (omega arith)))
+      k (f .earlier .map)
+
+module _ (t : Way) (z : Size) (rects : List ℕ) (p m a q : Planes) (k : List ℕ) (none : throughNumberOf t z rects p m a q k ≡ 0) where
+  pub through-agrees : Agrees z rects (pictureOf z p) (pictureOf z q) (pictureOf z (throughOf t z rects p m a q))
+  through-agrees = lent-agrees t z rects p m a q k (through-0-exactly t z rects p m a q k .0 none)
+
+  pub through-completed : Completed z rects k (throughMapOf t z rects k)
+  through-completed = lent-completed t z rects p m a q k (through-0-exactly t z rects p m a q k .0 none)
 
 -- ---- demand 3: as V1 onto the one, as V2 onto the other, by either rule; the views' buffers may be any that are long enough
 
-pub layouts-agree : (rule : WidthRule) (z : Size) (rects : List ℕ) (p m a q m′ a′ q′ : Planes) → Lent AsV1 z rects p m a q → Lent (AsV2 rule) z rects p m′ a′ q′
-    → Agrees z rects (pictureOf z p) (pictureOf z q) (pictureOf z (throughOf AsV1 z rects p m a q))
-    × Agrees z rects (pictureOf z p) (pictureOf z q′) (pictureOf z (throughOf (AsV2 rule) z rects p m′ a′ q′))
-layouts-agree rule z rects p m a q m′ a′ q′ one two = (lent-agrees AsV1 z rects p m a q one, lent-agrees (AsV2 rule) z rects p m′ a′ q′ two)
+module _ (rule : WidthRule) (z : Size) (rects : List ℕ) (p m a q m′ a′ q′ : Planes) (k k′ : List ℕ) (one : Lent AsV1 z rects p m a q k) (two : Lent (AsV2 rule) z rects p m′ a′ q′ k′) where
+  pub layouts-agree : Agrees z rects (pictureOf z p) (pictureOf z q) (pictureOf z (throughOf AsV1 z rects p m a q))
+      × Agrees z rects (pictureOf z p) (pictureOf z q′) (pictureOf z (throughOf (AsV2 rule) z rects p m′ a′ q′))
+  layouts-agree = (lent-agrees AsV1 z rects p m a q k one, lent-agrees (AsV2 rule) z rects p m′ a′ q′ k′ two)
+
+  pub layouts-complete : Completed z rects k (throughMapOf AsV1 z rects k) × Completed z rects k′ (throughMapOf (AsV2 rule) z rects k′)
+  layouts-complete = (lent-completed AsV1 z rects p m a q k one, lent-completed (AsV2 rule) z rects p m′ a′ q′ k′ two)

@@ -1,37 +1,20 @@
--- What the rules of the calls take over a list, in the words of demand 3: a test that does not look at the rectangle stands beside the list,
--- and at a pixel of the picture the main view's luma is what lies inside. Assumes nothing.
+-- What the rules of the calls take over a list, in the words of demand 3: at a pixel of the picture the main view's luma is what lies
+-- inside. Assumes nothing.
 use Prim.Native.Nat.{ℕ, _<_, _≤_}
 use native.Mathlib.Omega.{arith}
 use mathlib.Core.Path.{_≡_}
-use mathlib.Core.Bool.{Bool, true, _&&_}
+use mathlib.Core.Bool.{true}
 use mathlib.Core.List.{List}
-use Rattle.lent.proofs.Bools.{same-test, both, both-left, both-right}
+use Rattle.lent.proofs.Bools.{same-test}
 use Rattle.lent.proofs.Taken.{box-facts, box-holds}
 use Rattle.picture.specs.declared.Size.{Size}
 use Rattle.picture.specs.Sizes.{strideOf, rowsOf}
 use Rattle.view.specs.declared.View.{View}
-use Rattle.rects.specs.Rects.{Rule, rectAtOf, nth, taken, area}
+use Rattle.rects.specs.Rects.{rectAtOf, nth, taken, area}
 use Rattle.apply_main.specs.Main.{mainLuma}
 use Rattle.rects.proofs.Rects.{taken-facts, taken-holds, area-facts}
 use Rattle.apply_main.proofs.Main.{mainLuma-facts, mainLuma-holds}
 use Rattle.agree_law.specs.Agrees.{inRect, inside, widened}
-
--- a rule is another one with a test beside it
-pub taken-beside : (rule other : Rule) (beside : Bool) (rects : List ℕ) (r c : ℕ)
-    → ((left top right bottom : ℕ) → rule left top right bottom r c ≡ (other left top right bottom r c && beside))
-    → taken rule rects r c ≡ (taken other rects r c && beside)
-unfolding nth
-taken-beside rule other beside rects r c is =
-    same-test (taken rule rects r c) (taken other rects r c && beside)
-    (λ e. let f = taken-facts rule rects r c e in
-    let q = rectAtOf rects (f .0) in
-    let g = rw (is (q .left) (q .top) (q .right) (q .bottom)) at (f .1 .1) in
-    let o = other (q .left) (q .top) (q .right) (q .bottom) r c in
-    both (taken other rects r c) beside (taken-holds other rects r c (f .0) (f .1 .0) (both-left o beside g)) (both-right o beside g))
-    (λ e. let f = taken-facts other rects r c (both-left (taken other rects r c) beside e) in
-    let q = rectAtOf rects (f .0) in
-    taken-holds rule rects r c (f .0) (f .1 .0)
-    (rw (is (q .left) (q .top) (q .right) (q .bottom)) (both (other (q .left) (q .top) (q .right) (q .bottom) r c) beside (f .1 .1) (both-right (taken other rects r c) beside e))))
 
 -- at a pixel of the picture, of a view that is as large, luma is taken exactly inside the rectangles
 pub luma-inside : (z : Size) (w : View) (rects : List ℕ) (r c : ℕ) → z .width ≤ w .width → z .height ≤ w .height → r < z .height → c < z .width

@@ -1,6 +1,7 @@
--- Demand 3: start at Agree.antt.
+-- Demand 3: start at Agree.antt, and for the map at Complete.antt.
 pub mod Inside
 pub mod Agree
+pub mod Complete
 pub mod Number
 pub mod Calls
 pub mod Ends

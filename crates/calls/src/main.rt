@@ -8,7 +8,7 @@ use libc::STDOUT_FILENO;
 use picture::Size;
 use view::View;
 use wire_read::parts::Which;
-ghost use Prim.Native.Nat.{_≤_};
+ghost use Prim.Native.Nat.{_+_, _≤_};
 ghost use lib.ListN.{length};
 
 fn text(s: &[u8]) {
@@ -107,7 +107,41 @@ fn plane(name: &[u8], s: &[u8])
     text(b"\n");
 }
 
-// A 5x5 picture of Y, U and V goes as V1 onto one earlier picture of dots and as V2, by a rule, onto another, over a list.
+// A byte of a map: what the calls set is a digit.
+fn letter(b: u8) -> u8 {
+    if b < 10 { b + 48 } else { b }
+}
+
+// A row of a map of 8 columns.
+fn row(s: &[u8], at: usize)
+    requires { ⌜ at + 8 ≤ length (now s) ⌝ }
+{
+    let letters = [
+        letter(s[at]),
+        letter(s[at + 1]),
+        letter(s[at + 2]),
+        letter(s[at + 3]),
+        letter(s[at + 4]),
+        letter(s[at + 5]),
+        letter(s[at + 6]),
+        letter(s[at + 7]),
+    ];
+    part(b"", &letters);
+}
+
+// The first three rows of a map of 8 columns.
+fn blocks(name: &[u8], s: &[u8])
+    requires { ⌜ 24 ≤ length (now s) ⌝ }
+{
+    text(name);
+    row(s, 0);
+    row(s, 8);
+    row(s, 16);
+    text(b"\n");
+}
+
+// A 5x5 picture of Y, U and V goes as V1 onto one earlier picture of dots, whose map is dots too, and as V2, by a rule, onto another, over a
+// list.
 fn both(title: &[u8], rule: WidthRule, rects: &[u16]) {
     let y = [b'Y'; 256];
     let u = [b'U'; 256];
@@ -121,9 +155,11 @@ fn both(title: &[u8], rule: WidthRule, rects: &[u16]) {
     let mut first_y = [b'.'; 256];
     let mut first_u = [b'.'; 256];
     let mut first_v = [b'.'; 256];
+    let mut first_map = [b'.'; 64];
     let mut second_y = [b'.'; 256];
     let mut second_u = [b'.'; 256];
     let mut second_v = [b'.'; 256];
+    let mut second_map = [b'.'; 64];
     let answer = agree::both(
         Way::AsV1,
         Way::AsV2(rule),
@@ -144,9 +180,11 @@ fn both(title: &[u8], rule: WidthRule, rects: &[u16]) {
         &mut first_y,
         &mut first_u,
         &mut first_v,
+        &mut first_map,
         &mut second_y,
         &mut second_u,
         &mut second_v,
+        &mut second_map,
     );
     text(title);
     number(answer.number);
@@ -154,9 +192,11 @@ fn both(title: &[u8], rule: WidthRule, rects: &[u16]) {
     plane(b"V1, Y:", &first_y);
     plane(b"V1, U:", &first_u);
     plane(b"V1, V:", &first_v);
+    blocks(b"V1, map:", &first_map);
     plane(b"V2, Y:", &second_y);
     plane(b"V2, U:", &second_u);
     plane(b"V2, V:", &second_v);
+    blocks(b"V2, map:", &second_map);
 }
 
 fn main() {

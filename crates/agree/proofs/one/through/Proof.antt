@@ -1,8 +1,10 @@
 -- `agree::one::through` meets its contract: a number that is not 0 is answered with nothing written; else each of the three calls answers 0, and
 -- leaves what its definition says.
 -- Assumes nothing.
+use Prim.Native.Nat.{ℕ}
 use borrow.Author.Needs.{needs}
 use mathlib.Core.Path.{_≡_, sym, _∙_}
+use mathlib.Core.List.{List}
 use lib.ListN.{length}
 use denote.Ref.{now}
 use Rattle.split.specs.Split.{Planes, planes, lengthsOf, splitNumberOf}
@@ -14,10 +16,16 @@ use Rattle.agree.proofs.one.through.Tie as tie
 
 -- the places: where the number is found, and where each call is done
 abbrev start : tie.After-through-number → tie.Start
-start c = c .before .before .before .before .before .before .before .before .before .before .before .before .before .before
+start c = c .before .before .before .before .before .before .before .before .before .before .before .before .before .before .before
 
-abbrev split-at : tie.After-slice-known21 → tie.After-split
-split-at c = c .before .before .before .before .before .before .before .before .before .before .before .before .before .before .before .before .before .before .before .before .before .before .before .before .before .before .before .before .before .before .before .before .before .before .before .before .before .before .before .before
+abbrev split-at : tie.After-slice-known24 → tie.After-split
+split-at c = c .before .before .before .before .before .before .before .before .before .before .before .before .before .before .before .before .before .before .before .before .before .before .before .before .before .before .before .before .before .before .before .before .before .before .before .before .before .before .before .before .before .before .before .before .before .before
+
+abbrev main-at : tie.After-slice-known24 → tie.After-apply-main-view
+main-at c = c .before .before .before .before .before .before .before .before .before .before .before .before .before .before .before .before .before .before .before .before .before .before .before .before
+
+abbrev auxiliary-at : tie.After-slice-known24 → tie.After-apply-auxiliary-view
+auxiliary-at c = c .before .before .before .before .before .before .before .before
 
 abbrev from : tie.After-through-number → Planes
 from c = planes (start c .args .y .now) (start c .args .u .now) (start c .args .v .now)
@@ -31,18 +39,21 @@ auxiliary c = planes (start c .args .auxiliary-y .now) (start c .args .auxiliary
 abbrev old : tie.After-through-number → Planes
 old c = planes (start c .args .qy .now) (start c .args .qu .now) (start c .args .qv .now)
 
+abbrev map : tie.After-through-number → List ℕ
+map c = start c .args .q-map .now
+
 numbered : (c : tie.After-through-number) → c .through-number .result
     ≡ firstOf (splitNumberOf (start c .args .way) (start c .args .size) (lengthsOf (from c)) (lengthsOf (main c)) (lengthsOf (auxiliary c)))
-    (earlierNumberOf (start c .args .size) (lengthsOf (old c)) (length (now (start c .args .rects))))
+    (earlierNumberOf (start c .args .size) (lengthsOf (old c)) (length (map c)) (length (now (start c .args .rects))))
 numbered c = c .through-number .ensures
 
 zero : (c : tie.Else1)
     → let a = start (c .before) .args in
-    throughNumberOf (a .way) (a .size) (now (a .rects)) (from (c .before)) (main (c .before)) (auxiliary (c .before)) (old (c .before)) ≡ 0
+    throughNumberOf (a .way) (a .size) (now (a .rects)) (from (c .before)) (main (c .before)) (auxiliary (c .before)) (old (c .before)) (map (c .before)) ≡ 0
 zero c =
     let k = c .before in
     let a = start k .args in
-    through-plainly (a .way) (a .size) (now (a .rects)) (from k) (main k) (auxiliary k) (old k) ∙ sym (numbered k) ∙ c .if1 .left
+    through-plainly (a .way) (a .size) (now (a .rects)) (from k) (main k) (auxiliary k) (old k) (map k) ∙ sym (numbered k) ∙ c .if1 .left
 
 through-number-requires : tie.Need-through-number-requires
 through-number-requires c κs = search needs
@@ -51,7 +62,7 @@ returns : tie.Need-returns
 returns c =
     let k = c .before in
     let a = start k .args in
-    through-refused (a .way) (a .size) (now (a .rects)) (from k) (main k) (auxiliary k) (old k) (numbered k) (c .if1 .taken)
+    through-refused (a .way) (a .size) (now (a .rects)) (from k) (main k) (auxiliary k) (old k) (map k) (numbered k) (c .if1 .taken)
 
 split-requires : tie.Need-split-requires
 split-requires c κs = search needs
@@ -87,13 +98,16 @@ same-length-6 : tie.Need-same-length-6
 same-length-6 c = split-at c .split .kept .1 .1 .1 .1 .1 .1 .1 .1 .1 .1 .0
 
 same-length-7 : tie.Need-same-length-7
-same-length-7 c = c .before .before .before .before .before .before .apply-auxiliary-view .kept .1 .1 .0 ∙ c .before .before .before .before .before .before .before .before .before .before .before .before .before .before .before .before .before .before .before .apply-main-view .kept .1 .0
+same-length-7 c = auxiliary-at c .apply-auxiliary-view .kept .1 .1 .0 ∙ main-at c .apply-main-view .kept .1 .0
 
 same-length-8 : tie.Need-same-length-8
-same-length-8 c = c .before .before .before .before .before .before .apply-auxiliary-view .kept .1 .1 .1 .0 ∙ c .before .before .before .before .before .before .before .before .before .before .before .before .before .before .before .before .before .before .before .apply-main-view .kept .1 .1 .0
+same-length-8 c = auxiliary-at c .apply-auxiliary-view .kept .1 .1 .1 .0 ∙ main-at c .apply-main-view .kept .1 .1 .0
 
 same-length-9 : tie.Need-same-length-9
-same-length-9 c = c .before .before .before .before .before .before .apply-auxiliary-view .kept .1 .1 .1 .1 .0 ∙ c .before .before .before .before .before .before .before .before .before .before .before .before .before .before .before .before .before .before .before .apply-main-view .kept .1 .1 .1 .0
+same-length-9 c = auxiliary-at c .apply-auxiliary-view .kept .1 .1 .1 .1 .0 ∙ main-at c .apply-main-view .kept .1 .1 .1 .0
+
+same-length-10 : tie.Need-same-length-10
+same-length-10 c = auxiliary-at c .apply-auxiliary-view .kept .1 .1 .1 .1 .1 .0 ∙ main-at c .apply-main-view .kept .1 .1 .1 .1 .0
 
 returns-2 : tie.Need-returns-2
 returns-2 c =
@@ -101,10 +115,9 @@ returns-2 c =
     let e = s .before .before .before .before .before .before .before in
     let k = e .before in
     let a = start k .args in
-    let first = c .before .before .before .before .before .before .before .before .before .before .before .before .before .before .before .before .before .before .before in
-    let laid = first .before .before .before .before .before .before .before in
-    through-done (a .way) (a .size) (now (a .rects)) (from k) (main k) (auxiliary k) (old k) (zero e)
-    (s .split .ensures) (laid .before .view-of .ensures) (laid .layout-of .ensures) (first .apply-main-view .ensures) (c .before .before .before .before .before .before .apply-auxiliary-view .ensures)
+    let laid = main-at c .before .before .before .before .before .before .before .before in
+    through-done (a .way) (a .size) (now (a .rects)) (from k) (main k) (auxiliary k) (old k) (map k) (zero e)
+    (s .split .ensures) (laid .before .view-of .ensures) (laid .layout-of .ensures) (main-at c .apply-main-view .ensures) (auxiliary-at c .apply-auxiliary-view .ensures)
 
 pub through-spec : {M : Type 1} → statement M
 through-spec =
@@ -126,4 +139,5 @@ through-spec =
     same-length-7
     same-length-8
     same-length-9
+    same-length-10
     returns-2)
