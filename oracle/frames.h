@@ -11,13 +11,14 @@
 
 enum { RUNS = 21 };
 
-/* A frame: a picture's planes, a main and an auxiliary view, and RGBA. */
+/* A frame: a picture's planes and its map, a main and an auxiliary view, and RGBA. */
 static uint32_t width, height, stride, rows;
 static size_t plane;
-static uint8_t *picture[3], *main_view[3], *aux_view[3], *rgba;
+static uint8_t *picture[3], *map, *main_view[3], *aux_view[3], *rgba;
 static const char *look;
 
 #define LENT(p) p[0], plane, p[1], plane, p[2], plane
+#define PICTURE LENT(picture), map, plane / 4
 #define SIZE (uint16_t)width, (uint16_t)height
 #define VIEW(p) SIZE, stride, stride / 2, LENT(p)
 #define ALL {0, 0, (uint16_t)width, (uint16_t)height}
@@ -41,7 +42,7 @@ static void smoothed(void)
             pixel[2] = (uint8_t)((row + column) * 255 / (height + width));
             pixel[3] = 255;
         }
-    haythaw_from_rgba(rgba, plane * 4, SIZE, LENT(picture));
+    haythaw_from_rgba(rgba, plane * 4, SIZE, PICTURE);
     haythaw_split_v1(SIZE, LENT(picture), LENT(main_view), LENT(aux_view));
 }
 
@@ -55,6 +56,7 @@ static void frame(uint32_t w, uint32_t h, int smooth)
         main_view[i] = filled(plane);
         aux_view[i] = filled(plane);
     }
+    map = filled(plane / 4);
     rgba = filled(plane * 4);
     if (smooth) smoothed();
 }
@@ -62,30 +64,30 @@ static void frame(uint32_t w, uint32_t h, int smooth)
 static void dropped(void)
 {
     for (int i = 0; i < 3; i++) free(picture[i]), free(main_view[i]), free(aux_view[i]);
-    free(rgba);
+    free(map), free(rgba);
 }
 
 static void our_main(void)
 {
     const uint16_t all[4] = ALL;
-    haythaw_apply_main_view(SIZE, LENT(picture), all, 4, VIEW(main_view));
+    haythaw_apply_main_view(SIZE, PICTURE, all, 4, VIEW(main_view));
 }
 
 static void our_v1(void)
 {
     const uint16_t all[4] = ALL;
-    haythaw_apply_auxiliary_v1(SIZE, LENT(picture), all, 4, VIEW(aux_view));
+    haythaw_apply_auxiliary_v1(SIZE, PICTURE, all, 4, VIEW(aux_view));
 }
 
 static void our_v2(void)
 {
     const uint16_t all[4] = ALL;
-    haythaw_apply_auxiliary_v2(SIZE, LENT(picture), all, 4, VIEW(aux_view));
+    haythaw_apply_auxiliary_v2(SIZE, PICTURE, all, 4, VIEW(aux_view));
 }
 
 static void our_split(void) { haythaw_split_v1(SIZE, LENT(picture), LENT(main_view), LENT(aux_view)); }
-static void our_from_rgba(void) { haythaw_from_rgba(rgba, plane * 4, SIZE, LENT(picture)); }
-static void our_to_rgba(void) { haythaw_to_rgba(SIZE, LENT(picture), 0, 0, SIZE, rgba, plane * 4); }
+static void our_from_rgba(void) { haythaw_from_rgba(rgba, plane * 4, SIZE, PICTURE); }
+static void our_to_rgba(void) { haythaw_to_rgba(SIZE, PICTURE, 0, 0, SIZE, rgba, plane * 4); }
 static void our_view_to_rgba(void) { haythaw_view_to_rgba(VIEW(main_view), rgba, plane * 4); }
 
 /* Every program has some of them. */

@@ -13,7 +13,7 @@ pub trait Answer: PartialEq {
 
     /// Says where `theirs` first differs.
     fn differs_at(&self, theirs: &Self) -> String {
-        format!("ours {}, the original's {}", self.shown(), theirs.shown())
+        format!("ours {}, expected {}", self.shown(), theirs.shown())
     }
 }
 
@@ -77,9 +77,9 @@ impl<const N: usize> Answer for [u8; N] {
 /// Where two runs of bytes first differ.
 pub fn first_difference(ours: &[u8], theirs: &[u8]) -> String {
     match ours.iter().zip(theirs).position(|(ours, theirs)| ours != theirs) {
-        Some(at) => format!("at byte {at}: ours {}, the original's {}", ours[at], theirs[at]),
+        Some(at) => format!("at byte {at}: ours {}, expected {}", ours[at], theirs[at]),
         None if ours.len() == theirs.len() => "nowhere".to_owned(),
-        None => format!("in length: ours {}, the original's {}", ours.len(), theirs.len()),
+        None => format!("in length: ours {}, expected {}", ours.len(), theirs.len()),
     }
 }
 

@@ -119,7 +119,7 @@ impl Run {
         self.findings.bytes += ours.size() as u64;
         self.counts.calls.store(self.findings.calls, Ordering::Relaxed);
         if self.shown {
-            println!("ours           {}\nthe original's {}", ours.shown(), theirs.shown());
+            println!("ours     {}\nexpected {}", ours.shown(), theirs.shown());
         }
         if ours != theirs {
             if self.shown {

@@ -15,6 +15,7 @@ pub(crate) mod from_rgba;
 mod lengths;
 mod lists;
 mod look;
+mod map;
 mod new;
 mod noise;
 mod payloads;
@@ -49,6 +50,7 @@ pub const SUITES: &[Suite] = &[
     avc_format::SUITE,
     annex_b::SUITE,
     allocation_size::SUITE,
+    allocation_size::MAP_SUITE,
     new::SUITE,
     from_rgba::SUITE,
     from_rgba::RUST_SUITE,
@@ -89,6 +91,7 @@ pub const BENCHES: &[Bench] = &[
     view_to_rgba::SMALL_BENCH,
     apply::MAIN_BENCH,
     apply::MAIN_RECTS_BENCH,
+    apply::MAIN_SMALL_RECTS_BENCH,
     apply::V1_BENCH,
     apply::V1_RECTS_BENCH,
     apply::V1_SMALL_RECTS_BENCH,

@@ -1,13 +1,16 @@
 //! The calls one after the other: pixels to a picture, split, both views into a fresh picture, and back to pixels.
 //!
-//! Ours goes through the library from the pixels on, the original through itself.
+//! Ours goes through the library from the pixels on, the original through itself. The original has no map: of views that have all samples, the
+//! whole picture's blocks are to be complete after both, and those of the padding as they were; of cropped ones it is by the rules (`map.rs`).
 
-use original::avc444::{Avc444Layout, Yuv444Frame};
+use original::avc444::{probe, Avc444Layout, Yuv444Frame};
 use original::decode::Yuv420Frame;
 
+use super::map::{self, Applied, Kind, COMPLETE, NEVER, STALE};
 use super::noise::{Noise, LONGEST};
-use super::pictures::{Planes, Sizes};
+use super::pictures::{Mapped, Planes, Sizes};
 use super::split::Outputs;
+use super::to_rgba::shown::{Counts, Shown};
 use super::views::rows_of;
 use super::{lists, Suite};
 use crate::ours::{self, Size, View, Views};
@@ -29,7 +32,7 @@ random: sizes to 300 by 300",
 const LAYOUTS: [Avc444Layout; 2] = [Avc444Layout::V1, Avc444Layout::V2];
 
 type Splitting = fn(Size, [&[u8]; 3], [&mut [u8]; 3], [&mut [u8]; 3]) -> Views;
-type Applying = fn(Size, [&mut [u8]; 3], &[u16], View<'_>) -> u32;
+type Applying = fn(Size, [&mut [u8]; 4], &[u16], View<'_>) -> u32;
 
 /// Pixels that `place` picks, and the way they go.
 #[derive(Clone, Copy)]
@@ -94,10 +97,10 @@ fn every_way(run: &mut Run, noise: &Noise, size: Size) {
 impl Case {
     fn check(&self, run: &mut Run, noise: &Noise) {
         let Self { size: Size { width, height }, place, layout, cropped, times } = *self;
-        let sizes = Sizes::exact(width, height);
+        let sizes = Mapped::exact(width, height);
         let (pixels, planes) = (noise.bytes(place, self.pixels()), Planes::new(&sizes, noise, place));
         let ours = run.ours(self.our_outcome(pixels, planes.clone()));
-        run.refused(ours.number);
+        run.refused(ours.outcome.number);
         run.compare(&ours, &self.their_outcome(pixels, planes), self.pixels() as u64, || {
             let layout = if layout == Avc444Layout::V1 { 1 } else { 2 };
             format!("{width} {height} {place} {layout} {} {times}", u8::from(cropped))
@@ -109,8 +112,8 @@ impl Case {
         4 * usize::from(self.size.width) * usize::from(self.size.height)
     }
 
-    /// The planes and the pixels at the end, and the first refusal on the way, of which there is to be none.
-    fn our_outcome(&self, pixels: &[u8], mut planes: Planes) -> Outcome {
+    /// The planes, the map and the pixels at the end, and the first refusal on the way, of which there is to be none.
+    fn our_outcome(&self, pixels: &[u8], mut planes: Planes) -> Shown {
         let (split, apply): (Splitting, Applying) = match self.layout {
             Avc444Layout::V1 => (ours::split_v1, ours::apply_auxiliary_v1),
             Avc444Layout::V2 => (ours::split_v2, ours::apply_auxiliary_v2),
@@ -120,7 +123,7 @@ impl Case {
 
         let mut outputs = Outputs::exact(&Sizes::exact(size.width, size.height)).0.map(|length| vec![0; length]);
         let [y, u, v, aux_y, aux_u, aux_v] = outputs.each_mut().map(Vec::as_mut_slice);
-        let views = split(size, planes.lent().map(|plane| &*plane), [y, u, v], [aux_y, aux_u, aux_v]);
+        let views = split(size, planes.lent_planes().map(|plane| &*plane), [y, u, v], [aux_y, aux_u, aux_v]);
         let [y, u, v, aux_y, aux_u, aux_v] = outputs.each_ref().map(Vec::as_slice);
         let (main, auxiliary) = (self.our_view(&views, [y, u, v]), self.our_view(&views, [aux_y, aux_u, aux_v]));
         numbers.push(views.number);
@@ -133,8 +136,7 @@ impl Case {
         let answer = ours::to_rgba(size, planes.lent().map(|plane| &*plane), list, output.lent());
         numbers.push(answer.number);
         let number = numbers.into_iter().find(|&number| number != 0).unwrap_or(0);
-        let buffers = planes.whole().into_iter().chain([output.whole()]).collect();
-        Outcome { number, count: answer.count, buffers }
+        Shown::ours(ours::Pixels { number, ..answer }, planes.whole().into_iter().chain([output.whole()]).collect())
     }
 
     fn our_view<'a>(&self, views: &Views, [y, u, v]: [&'a [u8]; 3]) -> View<'a> {
@@ -143,7 +145,7 @@ impl Case {
         View { width, height, luma_stride, chroma_stride, y, u, v }
     }
 
-    fn their_outcome(&self, pixels: &[u8], mut planes: Planes) -> Outcome {
+    fn their_outcome(&self, pixels: &[u8], mut planes: Planes) -> Shown {
         let Size { width, height } = self.size;
         let whole = lists::original_of(lists::whole(self.size));
         let rects = std::slice::from_ref(&whole);
@@ -156,8 +158,34 @@ impl Case {
             picture.apply_auxiliary_view(self.layout, &auxiliary, rects);
         }
         planes.take(&picture);
+        self.mark(planes.map());
+        let stale = map::stale(planes.map(), self.size, lists::whole(self.size));
         let rgba = Outcome::written(&picture.to_rgba(&whole), Lent::new(pixels.len()));
-        Outcome { buffers: planes.whole().into_iter().chain(rgba.buffers).collect(), ..rgba }
+        let outcome = Outcome { buffers: planes.whole().into_iter().chain(rgba.buffers).collect(), ..rgba };
+        Shown::of(outcome, Counts { filtered: probe::filtered(&picture, &whole), stale })
+    }
+
+    /// The map after all calls, which is as long as it has to be.
+    fn mark(&self, map: &mut [u8]) {
+        map.fill(NEVER);
+        if self.cropped {
+            return self.mark_by_rules(map);
+        }
+        let Size { width, height } = self.size;
+        let across = usize::from(width).next_multiple_of(16) / 2;
+        for row in 0..usize::from(height.div_ceil(2)) {
+            for column in 0..usize::from(width.div_ceil(2)) {
+                map[row * across + column] = if self.times == 0 { STALE } else { COMPLETE };
+            }
+        }
+    }
+
+    /// The same where the views are as large as the picture, and may lack samples.
+    fn mark_by_rules(&self, map: &mut [u8]) {
+        let auxiliary = if self.layout == Avc444Layout::V1 { Kind::V1 } else { Kind::V2 };
+        for kind in std::iter::once(Kind::Main).chain((0..self.times).map(|_| auxiliary)) {
+            Applied::new(kind, self.size, self.size).mark(&lists::whole(self.size), map);
+        }
     }
 
     fn their_view(&self, view: Yuv420Frame) -> Yuv420Frame {

@@ -11,7 +11,7 @@ use super::{MAIN, V1, V2, V2_32};
 use crate::bench::{sample, scale, Bench, Over, Pass, Sides, Weighing, SCALES};
 use crate::suites::lists;
 use crate::suites::noise::{Noise, LONGEST};
-use crate::suites::pictures::{Planes, Sizes};
+use crate::suites::pictures::{Mapped, Planes};
 use crate::suites::views::{original_of, Owned};
 
 pub const MAIN_BENCH: Bench =
@@ -22,6 +22,13 @@ pub const MAIN_RECTS_BENCH: Bench = Bench {
     input: ODD_RECTS,
     bound: Some(0.6),
     over: Over::One(|| sides(&MAIN, 1920, 1080, odd_rects())),
+};
+
+pub const MAIN_SMALL_RECTS_BENCH: Bench = Bench {
+    name: "apply_main_view_small",
+    input: SMALL_RECTS,
+    bound: None,
+    over: Over::One(|| sides(&MAIN, 1920, 1080, small_rects())),
 };
 
 pub const V1_BENCH: Bench =
@@ -120,9 +127,9 @@ fn scaled(call: &'static Call) -> [Pass; 2] {
 
 fn sides(call: &'static Call, width: u16, height: u16, list: Vec<u16>) -> Sides {
     let noise = Noise::new(LONGEST);
-    let sizes = Sizes::exact(width, height);
+    let sizes = Mapped::exact(width, height);
     let rects = lists::originals_of(&list).expect("whole fours");
-    let mut picture = Planes::new(&sizes, &noise, 1).original(&sizes);
+    let mut picture = Planes::new(&sizes, &noise, 1).original(&sizes.planes);
     let frame = original_of(Owned::new(&noise, width, height).view()).0.expect("the planes are exact");
     Sides::repeated(8, pass(call, width, height, list), move || {
         their_sum(call, &mut picture, black_box(&frame), black_box(&rects))
@@ -132,11 +139,11 @@ fn sides(call: &'static Call, width: u16, height: u16, list: Vec<u16>) -> Sides 
 /// A call of ours, which answers the number and a sum of bytes of the planes.
 fn pass(call: &'static Call, width: u16, height: u16, list: Vec<u16>) -> Pass {
     let noise = Noise::new(LONGEST);
-    let sizes = Sizes::exact(width, height);
+    let sizes = Mapped::exact(width, height);
     let view = Owned::new(&noise, width, height);
     let mut planes = Planes::new(&sizes, &noise, 1);
     Pass::new(u64::from(width) * u64::from(height), move || {
-        let number = (call.ours)(sizes.size, planes.lent(), black_box(&list), black_box(view.view()));
+        let number = (call.ours)(sizes.size(), planes.lent(), black_box(&list), black_box(view.view()));
         u64::from(number) + planes.sample()
     })
 }
@@ -146,11 +153,11 @@ fn pass(call: &'static Call, width: u16, height: u16, list: Vec<u16>) -> Pass {
 fn copies(width: u16, height: u16) -> Pass {
     let noise = Noise::new(LONGEST);
     let owned = Owned::new(&noise, width, height);
-    let mut planes = Planes::new(&Sizes::exact(width, height), &noise, 1);
+    let mut planes = Planes::new(&Mapped::exact(width, height), &noise, 1);
     let (stride, half) = (usize::from(width), usize::from(width / 2));
     Pass::new(u64::from(width) * u64::from(height), move || {
         let view = black_box(owned.view());
-        let [y, u, v] = planes.lent();
+        let [y, u, v] = planes.lent_planes();
         for (row, from) in y.chunks_exact_mut(stride).zip(view.y.chunks_exact(stride)) {
             row.copy_from_slice(from);
         }

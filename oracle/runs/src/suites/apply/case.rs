@@ -1,4 +1,4 @@
-//! An apply call on both sides: number, and every byte of the three planes with their guard bytes.
+//! An apply call on both sides: number, and every byte of the three planes and of the map with their guard bytes.
 
 use original::avc444::Yuv444Frame;
 use original::decode::Yuv420Frame;
@@ -8,17 +8,20 @@ use crate::ours::{Size, View};
 use crate::outcome::Outcome;
 use crate::run::Run;
 use crate::suites::lists;
+use crate::suites::map::{Applied, Kind};
 use crate::suites::noise::Noise;
 use crate::suites::pictures::{self, Planes};
 use crate::suites::views::{self, original_of, Source};
 
-type OurCall = fn(Size, [&mut [u8]; 3], &[u16], View<'_>) -> u32;
+type OurCall = fn(Size, [&mut [u8]; 4], &[u16], View<'_>) -> u32;
 type TheirCall = fn(&mut Yuv444Frame, &Yuv420Frame, &[ExclusiveRectangle]);
 
 /// The same call of both sides.
 pub struct Call {
     pub ours: OurCall,
     pub theirs: TheirCall,
+    /// Which view it is, for the map.
+    pub kind: Kind,
     /// What the width of a padded view is a multiple of: 16, or 32 by the 32 rule.
     pub unit: u16,
 }
@@ -41,13 +44,15 @@ pub const LONGEST: usize = 1 << 21;
 /// A picture and a view.
 pub struct Case<'a> {
     call: &'static Call,
-    picture: pictures::Sizes,
+    picture: pictures::Mapped,
     place: u64,
     planes: Planes,
     sizes: views::Sizes,
     view: View<'a>,
     /// The original's view, or the number of its refusal.
     theirs: Result<Yuv420Frame, u32>,
+    /// What the map becomes, which the original has not.
+    applied: Applied,
 }
 
 impl<'a> Case<'a> {
@@ -55,13 +60,14 @@ impl<'a> Case<'a> {
     pub fn new(
         call: &'static Call,
         sources: &'a Sources,
-        picture: pictures::Sizes,
+        picture: pictures::Mapped,
         place: u64,
         sizes: views::Sizes,
     ) -> Self {
         let view = sources.views.view(&sizes);
         let planes = Planes::new(&picture, &sources.pictures, place);
-        Self { call, picture, place, planes, sizes, view, theirs: original_of(view).0 }
+        let applied = Applied::new(call.kind, picture.size(), Size { width: view.width, height: view.height });
+        Self { call, picture, place, planes, sizes, view, theirs: original_of(view).0, applied }
     }
 
     /// The call with a list of rectangles.
@@ -77,7 +83,7 @@ impl<'a> Case<'a> {
 
     fn our_outcome(&self, list: &[u16]) -> Outcome {
         let mut planes = self.planes.clone();
-        let number = (self.call.ours)(self.picture.size, planes.lent(), list, self.view);
+        let number = (self.call.ours)(self.picture.size(), planes.lent(), list, self.view);
         Outcome { number, count: 0, buffers: planes.whole() }
     }
 
@@ -93,9 +99,10 @@ impl<'a> Case<'a> {
         };
         match &self.theirs {
             Ok(view) => {
-                let mut picture = planes.original(&self.picture);
+                let mut picture = planes.original(&self.picture.planes);
                 (self.call.theirs)(&mut picture, view, &rects);
                 planes.take(&picture);
+                self.applied.mark(list, planes.map());
                 Outcome { number: 0, count: 0, buffers: planes.whole() }
             }
             Err(number) => unwritten(*number),

@@ -12,7 +12,7 @@ use crate::suites::{lengths, pictures, views};
 pub const ABOUT: &str =
     "systematic: pictures to 49 by 49; every left modulo 4, top modulo 16, and parity of right and bottom, with views that are
 padded, exact or cropped; views cropped by 1 to 15 in each direction, and unrelated in size; rectangles that are empty,
-reversed or off the picture; lists of 0 to 24 numbers; too short planes, too narrow strides, and both; widths and left edges
+reversed or off the picture; lists of 0 to 24 numbers; too short planes and maps, too narrow strides, and both; widths and left edges
 about 512 and 1,024
 named: the worked rectangles of a 5x5 picture; (1,0,33,16), (0,1,64,17), (0,8,64,24) and left = 2, each of which FreeRDP
 gets wrong in some combine; widths 20, 34 and 62; the whole frame; the kinds of call behind CVE-2023-40188, CVE-2026-29774
@@ -69,9 +69,9 @@ pub fn by_width(run: &mut Run, call: &'static Call) {
 fn far(run: &mut Run, call: &'static Call, sources: &Sources) {
     for width in [65_503, 65_504, 65_505, 65_520, 65_535] {
         for view_width in [65_535, 65_520, 65_505, 65_504, 40_000, 32_769, 32_768] {
-            let picture = pictures::Sizes::exact(width, 2);
+            let picture = pictures::Mapped::exact(width, 2);
             let case = Case::new(call, sources, picture, u64::from(width), views::Sizes::tight(view_width, 2));
-            case.check(run, &lists::whole(picture.size));
+            case.check(run, &lists::whole(picture.size()));
             case.check(run, &[width - 9, 0, 65_535, 65_535]);
         }
     }
@@ -102,7 +102,7 @@ impl<'a> Small<'a> {
     fn with(&self, view: views::Sizes) -> Case<'a> {
         let Size { width, height } = self.size;
         let place = u64::from(width) * 50 + u64::from(height);
-        Case::new(self.call, self.sources, pictures::Sizes::exact(width, height), place, view)
+        Case::new(self.call, self.sources, pictures::Mapped::exact(width, height), place, view)
     }
 
     fn every(&self, run: &mut Run) {
@@ -176,7 +176,7 @@ impl<'a> Small<'a> {
     /// All that is refused, alone and together.
     fn refusals(&self, run: &mut Run) {
         let Size { width, height } = self.size;
-        for picture in pictures::Sizes::exact(width, height).all_lengths() {
+        for picture in pictures::Mapped::exact(width, height).all_lengths() {
             for view in bad_views(self.padded()) {
                 let case = Case::new(self.call, self.sources, picture, 3, view);
                 let rect = lists::whole(self.size);
@@ -205,7 +205,7 @@ fn bad_views(right: views::Sizes) -> Vec<views::Sizes> {
 
 fn random_case(run: &mut Run, call: &'static Call, sources: &Sources) {
     let picture = random_picture(&mut run.random);
-    let view = random_view(&mut run.random, picture.size);
+    let view = random_view(&mut run.random, picture.size());
     let place = run.random.between(0, 999_999);
     let case = Case::new(call, sources, picture, place, view);
     for _ in 0..2 {
@@ -213,22 +213,22 @@ fn random_case(run: &mut Run, call: &'static Call, sources: &Sources) {
             0 => run.random.between(0, 40),
             _ => 4 * run.random.between(0, 6),
         };
-        let list = lists::anyhow(&mut run.random, picture.size, numbers as usize);
+        let list = lists::anyhow(&mut run.random, picture.size(), numbers as usize);
         case.check(run, &list);
     }
 }
 
 /// Small, middling, very wide or very high.
-fn random_picture(random: &mut Random) -> pictures::Sizes {
+fn random_picture(random: &mut Random) -> pictures::Mapped {
     let (most_width, most_height) = [(49, 49), (300, 300), (65_535, 16), (16, 65_535)][match random.between(0, 19) {
         0 => 2,
         1 => 3,
         2..=9 => 1,
         _ => 0,
     }];
-    let exact = pictures::Sizes::exact(random.between(0, most_width) as u16, random.between(0, most_height) as u16);
+    let exact = pictures::Mapped::exact(random.between(0, most_width) as u16, random.between(0, most_height) as u16);
     match random.between(0, 19) {
-        0 => exact.all_lengths().nth(random.between(1, 26) as usize).expect("one of 27"),
+        0 => exact.all_lengths().nth(random.between(1, pictures::Mapped::WAYS - 1) as usize).expect("one of its ways"),
         _ => exact,
     }
 }

@@ -65,19 +65,22 @@ const NAMED: &[Named] = &[
     Named { picture: (64, 64), view: (0, 0), rects: &[[0, 0, 64, 64]] },
 ];
 
-/// Every case with a name: as it is; with the view's last byte of each plane missing; and with planes of the picture that are
-/// as long as those of a picture a macroblock smaller.
+/// Every case with a name: as it is; with the view's last byte of each plane missing; and with planes, or a map, of
+/// the picture that are as long as those of a picture a macroblock smaller.
 pub fn every(run: &mut Run, call: &'static Call, sources: &Sources) {
     for &Named { picture: (width, height), view, rects } in NAMED {
-        let picture = pictures::Sizes::exact(width, height);
+        let picture = pictures::Mapped::exact(width, height);
         let view = views::Sizes::tight(view.0, view.1);
         let list = rects.concat();
         Case::new(call, sources, picture, 0, view).check(run, &list);
         for other in view.other_lengths() {
             Case::new(call, sources, picture, 0, other).check(run, &list);
         }
-        let smaller = pictures::Sizes::exact(width.saturating_sub(16), height.saturating_sub(16));
-        let disagreeing = pictures::Sizes { lengths: smaller.lengths, ..picture };
-        Case::new(call, sources, disagreeing, 0, view).check(run, &list);
+        let smaller = pictures::Mapped::exact(width.saturating_sub(16), height.saturating_sub(16));
+        let lengths = smaller.planes.lengths;
+        let short_planes = pictures::Mapped { planes: pictures::Sizes { lengths, ..picture.planes }, ..picture };
+        let short_map = pictures::Mapped { map: smaller.map, ..picture };
+        Case::new(call, sources, short_planes, 0, view).check(run, &list);
+        Case::new(call, sources, short_map, 0, view).check(run, &list);
     }
 }

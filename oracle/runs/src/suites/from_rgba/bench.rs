@@ -8,7 +8,7 @@ use super::{Call, FILLED, RUST};
 use crate::bench::{sample, scale, Bench, Over, Pass, Sides, Weighing, SCALES};
 use crate::suites::look::Look;
 use crate::suites::noise::{Noise, LONGEST};
-use crate::suites::pictures::{Planes, Sizes};
+use crate::suites::pictures::{Mapped, Planes};
 
 pub const BENCH: Bench = Bench {
     name: "from_rgba",
@@ -46,11 +46,11 @@ fn sides(call: &'static Call, look: Look, width: u16, height: u16) -> Sides {
 
 /// A call of ours, which answers the number and a sum of bytes of the planes.
 fn pass(call: &'static Call, look: Look, width: u16, height: u16) -> Pass {
-    let sizes = Sizes::exact(width, height);
+    let sizes = Mapped::exact(width, height);
     let pixels = look.pixels(width, height);
     let mut planes = Planes::new(&sizes, &Noise::new(LONGEST), 0);
     Pass::new(u64::from(width) * u64::from(height), move || {
-        let number = (call.ours)(black_box(&pixels), sizes.size, planes.lent());
+        let number = (call.ours)(black_box(&pixels), sizes.size(), planes.lent());
         u64::from(number) + planes.sample()
     })
 }

@@ -9,6 +9,7 @@ use crate::bench::{sample, scale, Bench, Over, Pass, Sides, Weighing, SCALES};
 use crate::ours::{self, Size};
 use crate::suites::lists::{self, Rect};
 use crate::suites::look::Look;
+use crate::suites::map::COMPLETE;
 
 pub const BENCH: Bench = Bench {
     name: "to_rgba",
@@ -82,18 +83,21 @@ fn whole(width: u16, height: u16, gap: usize) -> Pass {
 }
 
 /// A call of ours for a rectangle inside the picture, which answers the number, the count and a sum of bytes. The planes stand
-/// one behind the other, and then, so many bytes on, the output: where buffers lie is not left to chance.
+/// one behind the other, then, so many bytes on, the output, and then the map: where buffers lie is not left to chance. All blocks are
+/// complete.
 fn pass(look: Look, size: Size, rect: Rect, gap: usize) -> Pass {
     let [left, top, right, bottom] = rect;
     let pixels = u64::from(right - left) * u64::from(bottom - top);
     let mut memory = look.planes(size.width, size.height).concat();
-    let length = memory.len() / 3;
-    memory.resize(3 * length + gap + 4 * pixels as usize, 0);
+    let (length, written) = (memory.len() / 3, 4 * pixels as usize);
+    memory.resize(3 * length + gap + written, 0);
+    memory.resize(3 * length + gap + written + length / 4, COMPLETE);
     Pass::new(pixels, move || {
         let (planes, rest) = black_box(&mut memory).split_at_mut(3 * length);
-        let (out, (y, chroma)) = (&mut rest[gap..], planes.split_at(length));
+        let (out, map) = rest[gap..].split_at_mut(written);
+        let (y, chroma) = planes.split_at(length);
         let (u, v) = chroma.split_at(length);
-        let ours::Pixels { number, count, .. } = ours::to_rgba(size, [y, u, v], rect, out);
+        let ours::Pixels { number, count, .. } = ours::to_rgba(size, [y, u, v, map], rect, out);
         u64::from(number) + count as u64 + sample(out)
     })
 }
