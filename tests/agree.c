@@ -4,15 +4,17 @@
    picture is split as V1, and main, then auxiliary view go onto the first earlier picture over the list; the same as V2 onto the second,
    and as V2 by the 32 rule onto one more. Then every byte of every lent buffer is compared with what the statement says, worked out here
    from the rules' words alone: the views are the picture's samples and, past its stride, Y 0 and U and V 128; luma and chroma are the
-   picture's where some rectangle takes them, and as before elsewhere. A width above 65,504 is refused with 5 by the 32 rule, and changes
-   nothing.
+   picture's where some rectangle takes them, and as before elsewhere. The map of stale colour begins as any bytes: every block in a widened
+   rectangle is 1 after the main view and 2 after the auxiliary one, and every other as before. A width above 65,504 is refused with 5 by
+   the 32 rule, and changes nothing.
 
        agree [--seed N] [--cases N] [--seconds N] [--only CASE]
-       agree --self-test      alters a byte after the calls, in each layout and rule: it has to be noticed; and lays the views out by the
-                              16 rule where they are read by the 32 rule: that has to be noticed exactly where the two W differ
+       agree --self-test      alters a byte of V and one of the map after the calls, in each layout and rule, and leaves the auxiliary view
+                              out: it has to be noticed; and lays the views out by the 16 rule where they are read by the 32 rule: that
+                              has to be noticed exactly where the two W differ
 
    The last line has the cases, by the 32 rule those whose W is the stride, those where it is 16 more and those that are too wide for it,
-   the bytes compared, the differences and the seed; the status is 1 if there is a difference. */
+   the bytes compared, how many of them of maps, the differences and the seed; the status is 1 if there is a difference. */
 #include <stdint.h>
 #include <stdio.h>
 #include <stdlib.h>
@@ -39,9 +41,11 @@ typedef struct {
     size_t count; /* numbers in the list */
 } Case;
 
-static uint64_t compared, differences;
+static uint64_t compared, of_maps, differences;
 static uint64_t narrow, wide, refused; /* by the 32 rule: cases whose W is the stride, where it is 16 more, and too wide for it */
-static int altered; /* the walk in which the self-test alters a byte, or 0 */
+enum { A_SAMPLE, A_BLOCK, NO_AUXILIARY, FAULTS };
+static int altered; /* the walk in which the self-test alters a byte of V or of the map or leaves the auxiliary view out, or 0 */
+static int fault;   /* which of these */
 static int crossed; /* whether the self-test splits by the 16 rule what is read by the 32 rule: the views are not looked at then */
 
 static void *room(size_t n)
@@ -236,6 +240,25 @@ static size_t wrong_views(const Case *c, int walk, size_t w, Three p, Three main
     return wrong;
 }
 
+/* A map before the calls: 0, 1 and 2 mostly, and bytes that no call writes. */
+static Lent any_map(size_t blocks)
+{
+    Lent map = lent(blocks);
+    for (size_t i = 0; i < blocks; i++) map.at[i] = map.at[i] < 224 ? map.at[i] % 3 : map.at[i];
+    return map;
+}
+
+/* The map is `set` in every block whose chroma is marked, and as before elsewhere and after it. Answers the first byte that is not so, or
+   lent. A block's four places are marked together. */
+static size_t wrong_map(const Case *c, Lent now, Lent before, const uint8_t *marked, uint8_t set)
+{
+    const size_t across = c->stride / 2;
+    compared += now.lent, of_maps += now.lent;
+    for (size_t i = 0; i < now.plane; i++)
+        if (now.at[i] != (marked[i / across * 2 * c->stride + i % across * 2] ? set : before.at[i])) return i;
+    return memcmp(now.at + now.plane, before.at + before.plane, GUARD) ? now.plane : now.lent;
+}
+
 static size_t wrong_guards(Three now, Three before)
 {
     compared += 3 * GUARD;
@@ -255,13 +278,14 @@ static haythaw_views split(const Case *c, int walk, Three p, Three main, Three a
         main.v.at, main.v.lent, aux.y.at, aux.y.lent, aux.u.at, aux.u.lent, aux.v.at, aux.v.lent);
 }
 
-typedef uint32_t Apply(uint16_t, uint16_t, uint8_t *, size_t, uint8_t *, size_t, uint8_t *, size_t, const uint16_t *, size_t, uint16_t,
-                       uint16_t, size_t, size_t, const uint8_t *, size_t, const uint8_t *, size_t, const uint8_t *, size_t);
+typedef uint32_t Apply(uint16_t, uint16_t, uint8_t *, size_t, uint8_t *, size_t, uint8_t *, size_t, uint8_t *, size_t, const uint16_t *,
+                       size_t, uint16_t, uint16_t, size_t, size_t, const uint8_t *, size_t, const uint8_t *, size_t, const uint8_t *, size_t);
 
-static uint32_t apply(Apply *call, const Case *c, Three onto, haythaw_views v, Three view)
+static uint32_t apply(Apply *call, const Case *c, Three onto, Lent map, haythaw_views v, Three view)
 {
-    return call(c->width, c->height, onto.y.at, onto.y.lent, onto.u.at, onto.u.lent, onto.v.at, onto.v.lent, c->rects, c->count, v.width,
-                v.height, v.luma_stride, v.chroma_stride, view.y.at, view.y.lent, view.u.at, view.u.lent, view.v.at, view.v.lent);
+    return call(c->width, c->height, onto.y.at, onto.y.lent, onto.u.at, onto.u.lent, onto.v.at, onto.v.lent, map.at, map.lent, c->rects,
+                c->count, v.width, v.height, v.luma_stride, v.chroma_stride, view.y.at, view.y.lent, view.u.at, view.u.lent, view.v.at,
+                view.v.lent);
 }
 
 /* What split answered, and the bytes of both views. */
@@ -284,18 +308,26 @@ static void through(const Case *c, uint64_t seed, uint64_t number, int walk, Thr
     static Apply *const auxiliary[] = {NULL, haythaw_apply_auxiliary_v1, haythaw_apply_auxiliary_v2, haythaw_apply_auxiliary_v2_32};
     size_t plane = c->stride * c->rows, large = width_of(c, walk) * c->rows;
     Three earlier = three(plane, plane), onto = copies_of(earlier), main = three(large, large / 4), aux = three(large, large / 4);
+    Lent map_was = any_map(plane / 4), map = copy_of(map_was);
     haythaw_views v = split_of(c, seed, number, walk, picture, main, aux);
 
-    if (apply(haythaw_apply_main_view, c, onto, v, main)) differs(c, seed, number, walk, "the number of the main view", 0);
-    if (apply(auxiliary[walk], c, onto, v, aux)) differs(c, seed, number, walk, "the number of the auxiliary view", 0);
-    if (altered == walk && plane) onto.v.at[plane - 1] ^= 1;
+    if (apply(haythaw_apply_main_view, c, onto, map, v, main)) differs(c, seed, number, walk, "the number of the main view", 0);
+    size_t first = wrong_map(c, map, map_was, chroma, 1);
+    if (altered == walk && fault == NO_AUXILIARY) v.width = v.height = 0;
+    if (apply(auxiliary[walk], c, onto, map, v, aux)) differs(c, seed, number, walk, "the number of the auxiliary view", 0);
+    if (altered == walk && fault == A_SAMPLE && plane) onto.v.at[plane - 1] ^= 1;
+    if (altered == walk && fault == A_BLOCK && plane) map.at[plane / 4 - 1] ^= 1;
+    size_t second = wrong_map(c, map, map_was, chroma, 2);
     size_t y = wrong_plane(onto.y, earlier.y, picture.y, luma);
     size_t u = wrong_plane(onto.u, earlier.u, picture.u, chroma);
     size_t w = wrong_plane(onto.v, earlier.v, picture.v, chroma);
     if (y < onto.y.lent) differs(c, seed, number, walk, "Y", y);
     if (u < onto.u.lent) differs(c, seed, number, walk, "U", u);
     if (w < onto.v.lent) differs(c, seed, number, walk, "V", w);
+    if (first < map.lent) differs(c, seed, number, walk, "the map after the main view", first);
+    if (second < map.lent) differs(c, seed, number, walk, "the map after both views", second);
     done(earlier), done(onto), done(main), done(aux);
+    free(map_was.at), free(map.at);
 }
 
 static int same_three(Three a, Three b)
@@ -342,21 +374,6 @@ static void run(uint64_t seed, uint64_t number)
     free(luma), free(chroma);
 }
 
-/* A byte altered in one walk is one difference. */
-static int alter_each(void)
-{
-    for (altered = 1; altered <= WALKS; altered++) {
-        differences = 0;
-        run(1, 511);
-        if (differences != 1) {
-            printf("agree: an altered byte in %s was not noticed\n", names[altered]);
-            return 1;
-        }
-    }
-    altered = 0;
-    return 0;
-}
-
 /* Whether the list takes any chroma. */
 static int takes(const Case *c)
 {
@@ -366,6 +383,26 @@ static int takes(const Case *c)
     int any_taken = plane && memchr(chroma, 1, plane);
     free(luma), free(chroma);
     return any_taken;
+}
+
+/* In the first case that takes some chroma. A byte altered in one walk is one difference; an auxiliary view that is left out is one in U, in V
+   and in the map. */
+static int alter_each(void)
+{
+    static const struct { const char *what; uint64_t differences; } faults[FAULTS] = {
+        {"an altered byte of V", 1}, {"an altered byte of the map", 1}, {"an auxiliary view left out", 3}};
+    uint64_t number = 0;
+    for (Case c = made(1, number); !takes(&c); c = made(1, number)) number++;
+    for (altered = 1; altered <= WALKS; altered++)
+        for (fault = 0; fault < FAULTS; fault++) {
+            differences = 0;
+            run(1, number);
+            if (differences == faults[fault].differences) continue;
+            printf("agree: %s in %s was not noticed\n", faults[fault].what, names[altered]);
+            return 1;
+        }
+    altered = 0;
+    return 0;
 }
 
 /* Cases that take some chroma, their views laid out by the 16 rule and read by the 32 rule: the picture that arrives is another one in every
@@ -394,8 +431,8 @@ static int self_test(void)
 {
     uint64_t apart = 0, alike = 0;
     if (alter_each() || cross(&apart, &alike)) return 1;
-    printf("agree: an altered byte is noticed in each layout and by the 32 rule; views of the 16 rule that are read by the 32 rule are "
-           "noticed in %llu cases, and are right in %llu, whose W is the stride\n",
+    printf("agree: an altered byte, of V or of the map, and an auxiliary view left out are noticed in each layout and by the 32 rule; views of "
+           "the 16 rule that are read by the 32 rule are noticed in %llu cases, and are right in %llu, whose W is the stride\n",
            (unsigned long long)apart, (unsigned long long)alike);
     return 0;
 }
@@ -406,8 +443,8 @@ int main(int argc, char **argv)
     const Options options = options_of("agree", 40000, argc, argv);
     const uint64_t ran = walk("agree", "cases", options, &differences, run);
     printf("agree: %llu cases through both layouts, and by the 32 rule: %llu with W the stride, %llu with 16 more, %llu too wide for it; "
-           "%llu bytes compared, %llu differences, seed %llu\n",
+           "%llu bytes compared, %llu of them of maps, %llu differences, seed %llu\n",
            (unsigned long long)ran, (unsigned long long)narrow, (unsigned long long)wide, (unsigned long long)refused,
-           (unsigned long long)compared, (unsigned long long)differences, (unsigned long long)options.seed);
+           (unsigned long long)compared, (unsigned long long)of_maps, (unsigned long long)differences, (unsigned long long)options.seed);
     return differences != 0;
 }

@@ -47,7 +47,7 @@ else
 fi
 
 cc "${strict[@]}" bind/c/example.c "$library" -o "$made/example"
-[[ $("$made/example") == 'views of 16 x 16; 4 bytes: 252 0 0' ]] || { echo 'c: FAILED: example.c'; exit 1; }
+[[ $("$made/example") == 'views of 16 x 16; 4 bytes, 0 pixels stale: 252 0 0' ]] || { echo 'c: FAILED: example.c'; exit 1; }
 cc "${strict[@]}" bind/c/payload.c "$library" -o "$made/payload"
 [[ $("$made/payload") == 'kind 0; luma 3 bytes at 18, chroma 2 bytes at 25; 4 numbers: 0 0 64 32' ]] || { echo 'c: FAILED: payload.c'; exit 1; }
 cc "${strict[@]}" bind/c/payload_write.c "$library" -o "$made/payload_write"

@@ -11,7 +11,7 @@
      crop unused  each view as the split made it, with the same crop set, and a decoder that is told to leave it: as padded
 
    Compared are the streams' headers, the parts that come back out of the payloads, the decoded views with those that were encoded, and
-   every sample of the three planes, padding included, with the rules' words, said again below.
+   every sample of the three planes, padding included, and every byte of the map of stale colour with the rules' words, said again below.
 
        real_stream FOLDER               every size; FOLDER is for the files that x264 and ffmpeg read and write
        real_stream FOLDER --self-test   each of the faults below has to be noticed, by the comparisons that it is for
@@ -33,8 +33,8 @@ static const uint16_t SIZES[][2] = {{1, 1},    {5, 3},     {20, 12},   {33, 17},
 typedef enum { PADDED, CROPPED, UNUSED, WAYS } Way;
 static const char *const WAY[WAYS] = {"padded", "cropped", "crop unused"};
 
-/* A picture and its three planes. */
-typedef struct { uint16_t width, height; size_t stride, rows; uint8_t *at[3]; } Picture;
+/* A picture, its three planes and its map of stale colour. */
+typedef struct { uint16_t width, height; size_t stride, rows; uint8_t *at[3], *map; } Picture;
 
 /* What a stream of a payload carries. */
 typedef struct { uint16_t rects[4 * CELLS]; size_t numbers; uint8_t pairs[2 * CELLS]; size_t pair_bytes; Bytes data; } Stream;
@@ -42,13 +42,13 @@ typedef struct { uint16_t rects[4 * CELLS]; size_t numbers; uint8_t pairs[2 * CE
 /* What was compared and what of it was wrong. Of the samples that the lists cover, `lost` are those that the rules does not take from
    views of this size, and `changed` those that are not the picture's in the end, both on one road. width and height: the decoded view's. */
 typedef struct { uint64_t compared, wrong; } Count;
-typedef struct { Count headers, parts, views, samples; uint64_t lost, changed; uint16_t width, height; } Tally;
+typedef struct { Count headers, parts, views, samples, maps; uint64_t lost, changed; uint16_t width, height; } Tally;
 static const Tally NOTHING;
 
 /* The faults of the self-test, and which comparisons have to notice. */
-enum { HEADERS = 1, PARTS = 2, VIEWS = 4, SAMPLES = 8 };
+enum { HEADERS = 1, PARTS = 2, VIEWS = 4, SAMPLES = 8, MAPS = 16, CROPPED_MAPS = 32 }; /* the last: maps, where the views are cropped */
 typedef enum {
-    NONE, MAIN_Y, MAIN_U, MAIN_V, AUX_Y, AUX_U, AUX_V, LOSSY, ENCODER_RANGE, DECODER_RANGE, CROP, PAIR, RECT, LAYOUT, PADDING, FAULTS
+    NONE, MAIN_Y, MAIN_U, MAIN_V, AUX_Y, AUX_U, AUX_V, LOSSY, ENCODER_RANGE, DECODER_RANGE, CROP, PAIR, RECT, LAYOUT, PADDING, MAP, FAULTS
 } Fault;
 static const struct { const char *what; int notice; } FAULT[FAULTS] = {
     {"no fault", 0},
@@ -61,11 +61,12 @@ static const struct { const char *what; int notice; } FAULT[FAULTS] = {
     {"x264 with loss (--qp 30)", HEADERS | VIEWS | SAMPLES},
     {"x264 changes the range (--range pc)", VIEWS | SAMPLES},
     {"ffmpeg changes the range (a stream of full range, -pix_fmt yuv420p)", VIEWS | SAMPLES},
-    {"16 more columns cropped", HEADERS | VIEWS | SAMPLES},
+    {"16 more columns cropped", HEADERS | VIEWS | SAMPLES | MAPS},
     {"a byte of a pair altered in the payload", PARTS},
-    {"a rectangle altered in the payload", PARTS | SAMPLES},
-    {"the auxiliary view taken as the other layout's", SAMPLES},
+    {"a rectangle altered in the payload", PARTS | SAMPLES | MAPS},
+    {"the auxiliary view taken as the other layout's", SAMPLES | CROPPED_MAPS},
     {"a sample of the combined picture's padding altered", SAMPLES},
+    {"a byte of the map altered, in the padding", MAPS},
 };
 static Fault fault;
 
@@ -136,19 +137,22 @@ static void pixel(uint16_t width, uint16_t height, uint32_t x, uint32_t y, uint8
 
 static Picture blank(uint16_t width, uint16_t height)
 {
-    Picture p = {width, height, up16(width), up16(height), {NULL, NULL, NULL}};
+    Picture p = {width, height, up16(width), up16(height), {NULL, NULL, NULL}, NULL};
     for (int i = 0; i < 3; i++) p.at[i] = room(p.stride * p.rows);
+    p.map = room(p.stride * p.rows / 4);
     return p;
 }
 
 static void done(Picture p)
 {
     for (int i = 0; i < 3; i++) free(p.at[i]);
+    free(p.map);
 }
 
 static size_t plane(Picture p) { return p.stride * p.rows; }
 
 #define PLANES(p) (p).width, (p).height, (p).at[0], plane(p), (p).at[1], plane(p), (p).at[2], plane(p)
+#define PICTURE(p) PLANES(p), (p).map, plane(p) / 4
 #define LENT(v) \
     (v).at, luma_samples(v), (v).at + luma_samples(v), chroma_samples(v), (v).at + luma_samples(v) + chroma_samples(v), chroma_samples(v)
 
@@ -159,7 +163,7 @@ static Picture made(uint16_t width, uint16_t height)
     for (uint32_t y = 0; y < height; y++)
         for (uint32_t x = 0; x < width; x++) pixel(width, height, x, y, rgba + 4 * ((size_t)y * width + x));
     Picture p = blank(width, height);
-    if (haythaw_from_rgba(rgba, count, PLANES(p))) stop("from_rgba refuses");
+    if (haythaw_from_rgba(rgba, count, PICTURE(p))) stop("from_rgba refuses");
     free(rgba);
     return p;
 }
@@ -301,6 +305,19 @@ static void samples_compared(Tally *t, int layout, Picture sent, Picture earlier
             }
 }
 
+/* Every byte of the map, which was 0, after the same: 1 where the main view has any place of a block that the lists cover, and 2 where the
+   auxiliary view has the three others as well. With `all` it is 2 in every such block. */
+static void maps_compared(Tally *t, int layout, Picture now, size_t vw, size_t vh, int all)
+{
+    for (size_t k = 0; k < plane(now) / 4; k++) {
+        const size_t row = k / (now.stride / 2) * 2, col = k % (now.stride / 2) * 2;
+        const int inside = row < up2(now.height) && col < up2(now.width), main = inside && row < vh && col < vw;
+        const int others = from_auxiliary(layout, vw, vh, row, col + 1) && from_auxiliary(layout, vw, vh, row + 1, col)
+                           && from_auxiliary(layout, vw, vh, row + 1, col + 1);
+        seen(&t->maps, 1, now.map[k] != (all && inside ? 2 : main + (main && others)));
+    }
+}
+
 static void views_compared(Tally *t, View sent, View got)
 {
     t->width = got.width, t->height = got.height;
@@ -313,8 +330,8 @@ static void views_compared(Tally *t, View sent, View got)
 
 /* ---- A case: a picture, a layout, a way ---- */
 
-typedef uint32_t Apply(uint16_t, uint16_t, uint8_t *, size_t, uint8_t *, size_t, uint8_t *, size_t, const uint16_t *, size_t, uint16_t,
-                       uint16_t, size_t, size_t, const uint8_t *, size_t, const uint8_t *, size_t, const uint8_t *, size_t);
+typedef uint32_t Apply(uint16_t, uint16_t, uint8_t *, size_t, uint8_t *, size_t, uint8_t *, size_t, uint8_t *, size_t, const uint16_t *,
+                       size_t, uint16_t, uint16_t, size_t, size_t, const uint8_t *, size_t, const uint8_t *, size_t, const uint8_t *, size_t);
 
 /* The stream's H.264 bytes decoded, compared with the view that was encoded, and applied to the picture. */
 static void shown(Tally *t, Apply *apply, Picture onto, const Stream *s, View sent, int leave_crop, Fault first)
@@ -322,7 +339,7 @@ static void shown(Tally *t, Apply *apply, Picture onto, const Stream *s, View se
     View v = decoded_view(s->data, leave_crop);
     if (fault >= first && fault < first + 3) v.at[fault == first ? 0 : luma_samples(v) + (fault > first + 1 ? chroma_samples(v) : 0)] ^= 1;
     views_compared(t, sent, v);
-    if (apply(PLANES(onto), s->rects, s->numbers, v.width, v.height, v.width, (size_t)(v.width + 1) / 2, LENT(v))) stop("apply refuses");
+    if (apply(PICTURE(onto), s->rects, s->numbers, v.width, v.height, v.width, (size_t)(v.width + 1) / 2, LENT(v))) stop("apply refuses");
     free(v.at);
 }
 
@@ -340,10 +357,13 @@ static void road(Tally *t, Picture sent, int layout, Way way, const View view[2]
     }
     for (int i = 0; i < 3; i++)
         for (size_t at = 0; at < plane(sent); at++) earlier.at[i][at] = now.at[i][at] = (uint8_t)~sent.at[i][at];
+    memset(now.map, 0, plane(now) / 4);
     shown(t, haythaw_apply_main_view, now, &got[0], view[0], way == UNUSED, MAIN_Y);
     shown(t, auxiliary, now, &got[1], view[1], way == UNUSED, AUX_Y);
     if (fault == PADDING) now.at[2][plane(now) - 1] ^= 1;
+    if (fault == MAP) now.map[plane(now) / 4 - 1] ^= 1;
     samples_compared(t, layout, sent, earlier, now, view[0].width, view[0].height, way != CROPPED);
+    maps_compared(t, layout, now, view[0].width, view[0].height, way != CROPPED);
     done(earlier), done(now);
     free(payload[0].at), free(payload[1].at);
 }
@@ -378,7 +398,13 @@ static Tally through(uint16_t width, uint16_t height, int layout, Way way, size_
 static int noticed(const Tally *t)
 {
     return (t->headers.wrong ? HEADERS : 0) | (t->parts.wrong ? PARTS : 0) | (t->views.wrong ? VIEWS : 0)
-           | (t->samples.wrong ? SAMPLES : 0);
+           | (t->samples.wrong ? SAMPLES : 0) | (t->maps.wrong ? MAPS : 0);
+}
+
+static int to_notice(int f, int way)
+{
+    const int notice = FAULT[f].notice;
+    return notice & CROPPED_MAPS ? (notice ^ CROPPED_MAPS) | (way == CROPPED ? MAPS : 0) : notice;
 }
 
 /* Each fault is noticed by the comparisons that it is for, and by no other; without a fault none notices anything. */
@@ -390,10 +416,10 @@ static int self_test(void)
             for (int way = PADDED; way <= CROPPED; way++) {
                 fault = (Fault)f;
                 const Tally t = through(33, 17, layout, (Way)way, h264);
-                if (noticed(&t) == FAULT[f].notice) continue;
-                printf("real stream: V%d, %s: %s: %llu headers, %llu parts, %llu view samples, %llu picture samples wrong\n", layout,
-                       WAY[way], FAULT[f].what, (unsigned long long)t.headers.wrong, (unsigned long long)t.parts.wrong,
-                       (unsigned long long)t.views.wrong, (unsigned long long)t.samples.wrong);
+                if (noticed(&t) == to_notice(f, way)) continue;
+                printf("real stream: V%d, %s: %s: %llu headers, %llu parts, %llu view samples, %llu picture samples, %llu bytes of maps wrong\n",
+                       layout, WAY[way], FAULT[f].what, (unsigned long long)t.headers.wrong, (unsigned long long)t.parts.wrong,
+                       (unsigned long long)t.views.wrong, (unsigned long long)t.samples.wrong, (unsigned long long)t.maps.wrong);
                 return 1;
             }
     printf("real stream: %d faults are noticed in both layouts, padded and cropped, each by the comparisons that it is for\n", FAULTS - 1);
@@ -431,6 +457,7 @@ int main(int argc, char **argv)
                        (unsigned long long)t.changed);
                 fflush(stdout);
                 add(&sum.headers, t.headers), add(&sum.parts, t.parts), add(&sum.views, t.views), add(&sum.samples, t.samples);
+                add(&sum.maps, t.maps);
                 if (way == CROPPED) lost[layout - 1] += t.lost, changed[layout - 1] += t.changed;
             }
     }
@@ -438,10 +465,11 @@ int main(int argc, char **argv)
     printf("real stream: %llu payloads: %llu fields of headers, %llu bytes and numbers of parts compared, %llu differ\n",
            (unsigned long long)payloads, (unsigned long long)sum.headers.compared, (unsigned long long)sum.parts.compared,
            (unsigned long long)around);
+    printf("real stream: %llu bytes of maps compared, %llu differ\n", (unsigned long long)sum.maps.compared, (unsigned long long)sum.maps.wrong);
     printf("real stream: %d sizes: %llu view samples, %llu picture samples compared, %llu differ; of %llu samples a crop loses %llu in V1 "
            "(%llu changed), %llu in V2 (%llu changed)\n",
            sizes, (unsigned long long)sum.views.compared, (unsigned long long)sum.samples.compared, (unsigned long long)inside,
            (unsigned long long)covered, (unsigned long long)lost[0], (unsigned long long)changed[0], (unsigned long long)lost[1],
            (unsigned long long)changed[1]);
-    return around + inside != 0;
+    return around + inside + sum.maps.wrong != 0;
 }

@@ -13,7 +13,11 @@
                      say where the latter begins;
      HABIT           at how many samples a habit acted;
      error_RULE      with a screen, the differences of red, green and blue from it, added up, by each rule for the width of V2;
+     stale_RULE      with a screen, how many pixels lie in blocks that the map does not call complete, as picture to RGBA answers;
+     map_RULE        how many blocks of the picture the map has at 0, at 1, at 2 and at anything else, and how many of the padding not at 0;
      else_RULE       in how many samples the planes of that rule are not those of the first.
+
+   Where the habits that are left out have the bit after the last one, a byte of the first rule's map is changed after each payload.
 
    Status 2, and a line why: the input ends within a session, or a call does not answer as it has to. */
 #include "recorded_habits.h"
@@ -22,10 +26,10 @@
 enum { RULES = 3 };
 typedef struct { const char *name; Apply *auxiliary; Picture kept; } Rule;
 
-static Rule of_v1[] = {{"v1", haythaw_apply_auxiliary_v1, {{NULL}}}};
-static Rule of_v2[RULES] = {{"exact", haythaw_apply_auxiliary_v2_exact, {{NULL}}},
-                            {"to16", haythaw_apply_auxiliary_v2, {{NULL}}},
-                            {"to32", haythaw_apply_auxiliary_v2_32, {{NULL}}}};
+static Rule of_v1[] = {{"v1", haythaw_apply_auxiliary_v1, {{NULL}, NULL}}};
+static Rule of_v2[RULES] = {{"exact", haythaw_apply_auxiliary_v2_exact, {{NULL}, NULL}},
+                            {"to16", haythaw_apply_auxiliary_v2, {{NULL}, NULL}},
+                            {"to32", haythaw_apply_auxiliary_v2_32, {{NULL}, NULL}}};
 
 static int version, count;     /* of the auxiliary view, and of its rules */
 static Rule *rules, *combiner; /* the rules, and the one by which FreeRDP combines: of V2 that is the 16 rule */
@@ -118,16 +122,28 @@ static void say_planes(void)
     for (int k = 0; k < HABITS; k++) printf(" %s=%zu", habit_names[k], acted[k]);
 }
 
-/* The differences of red, green and blue from the screen, added up over the pixels. */
-static uint64_t error_of(const Picture *p)
+/* The differences of red, green and blue from the screen, added up over the pixels; and the pixels that are stale. */
+static void say_error(const Rule *r)
 {
     const size_t pixels = luma_of(shown);
-    const haythaw_pixels made = haythaw_to_rgba(PICTURE(p), 0, 0, shown.width, shown.height, rgba, pixels * 4);
+    const haythaw_pixels made = haythaw_to_rgba(PICTURE(&r->kept), 0, 0, shown.width, shown.height, rgba, pixels * 4);
     uint64_t sum = 0;
     must(made.number == HAYTHAW_DONE && made.count == pixels * 4, "haythaw_to_rgba does not answer the whole picture");
     for (size_t k = 0; k < pixels; k++)
         for (int c = 0; c < 3; c++) sum += (uint64_t)abs(rgba[4 * k + c] - screen[3 * k + c]);
-    return sum;
+    printf(" error_%s=%llu stale_%s=%zu", r->name, (unsigned long long)sum, r->name, made.stale);
+}
+
+static void say_map(const Rule *r)
+{
+    const size_t across = stride / 2;
+    size_t at[4] = {0, 0, 0, 0}, padding = 0;
+    for (size_t k = 0; k < samples / 4; k++) {
+        const uint8_t byte = r->kept.map[k];
+        if (k / across < blocks_of(shown.height) && k % across < blocks_of(shown.width)) at[byte < 3 ? byte : 3]++;
+        else padding += byte != 0;
+    }
+    printf(" map_%s=%zu,%zu,%zu,%zu,%zu", r->name, at[0], at[1], at[2], at[3], padding);
 }
 
 static size_t not_as_first(const Rule *r)
@@ -145,7 +161,8 @@ static void say_rules(void)
     const bool follows = number(1);
     if (follows) take(screen, 3 * luma_of(shown));
     for (int k = 0; k < count; k++) {
-        if (follows) printf(" error_%s=%llu", rules[k].name, (unsigned long long)error_of(&rules[k].kept));
+        if (follows) say_error(&rules[k]);
+        say_map(&rules[k]);
         if (k) printf(" else_%s=%zu", rules[k].name, not_as_first(&rules[k]));
     }
 }
@@ -160,6 +177,7 @@ static void say_payload(const Payload *p)
         say_read(p, read.kind, &luma, &chroma);
     }
     combine(read.kind, &luma, &chroma);
+    if (!has(HABITS)) rules[0].kept.map[0] ^= 1;
     say_planes();
     say_rules();
     putchar('\n');

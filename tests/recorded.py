@@ -13,9 +13,12 @@ It needs neither FreeRDP nor H.264: what FreeRDP's parser, decoder and combiner 
   - the decoded views, applied over the rectangles that were read, make FreeRDP's planes, sample for sample, after its habits, which
     tests/recorded_habits.h names and counts;
   - the picture, once both views are there, is the server's screen: red, green and blue are off by less than 4 on average. V2 is read by
-    the exact rule for that. A rule whose W is another one is off by 4 or more in the last picture; one whose W is the same makes the same planes.
+    the exact rule for that. A rule whose W is another one is off by 4 or more in the last picture; one whose W is the same makes the same planes;
+  - the map of stale colour is 1 over the whole surface after a luma stream, and 2 after a chroma stream that follows one, in every block of
+    which the view has all; in the padding it stays 0. So a picture that is held to the screen has no stale pixel by the exact rule and of V1.
 
-The self-test changes bits of every file, and has the sessions read wrongly: all of it has to be noticed (tests/recorded_self_test.py).
+The self-test changes bits of every file, has the sessions read wrongly, and changes a byte of the map: all of it has to be noticed
+(tests/recorded_self_test.py).
 It needs a C compiler (cc), and makes the library first where that is not made (oracle/library.sh).
 Last line `recorded: ...`; exit status 1 if something is wrong, with a line for each that says in which session and payload, and first where."""
 import os
@@ -109,22 +112,74 @@ def wrong_in_payload(session, payload, answer):
         yield f'the picture is off by {mean(session, answer, first):.2f} on average from the server\'s screen'
 
 
+def wide_of(session, rule):
+    """W of V2 by a rule."""
+    return {'exact': session.width, 'to16': up(session.coded[0], 16), 'to32': up(session.width, 32)}[rule]
+
+
+def taken_of(session, rule):
+    """The columns and the rows of blocks of which the auxiliary view has all: V1 by R65 and R66, V2 by R68 and R69."""
+    wide, high = session.coded
+    columns, rows = range(up(session.width, 2) // 2), range(up(session.height, 2) // 2)
+    if rule == 'v1':
+        return [c for c in columns if 2 * c + 1 < wide], [r for r in rows if r // 8 * 16 + r % 8 + 8 < high]
+    w = wide_of(session, rule)
+    return [c for c in columns if w // 2 + c < wide and w // 4 + c // 2 < (wide + 1) // 2], [r for r in rows if 2 * r + 1 < high]
+
+
+def maps_of(session, rule):
+    """After each payload, how many blocks of the surface have 0, 1 and 2; each stream covers all of it."""
+    columns, rows = taken_of(session, rule)
+    taken, blocks = len(columns) * len(rows), up(session.width, 2) // 2 * (up(session.height, 2) // 2)
+    state, rest = 0, 0              # of the blocks that an auxiliary view completes, and of the others
+    for payload in session.payloads:
+        if payload.parsed['lc'] != '2':
+            state, rest = 1, 1
+        if payload.parsed['lc'] != '1' and state == 1:
+            state = 2
+        counts = [0, 0, 0]
+        counts[state] += taken
+        counts[rest] += blocks - taken
+        yield counts
+
+
+def stale_of(session, rule):
+    """How many pixels are stale once both views were there."""
+    wide, high = (sum(min(2, side - 2 * block) for block in blocks)
+                  for side, blocks in zip((session.width, session.height), taken_of(session, rule)))
+    return session.width * session.height - wide * high
+
+
+def wrong_in_maps(session, answers):
+    for rule in rules_of(session):
+        stale = stale_of(session, rule)
+        for k, (payload, answer, counts) in enumerate(zip(session.payloads, answers, maps_of(session, rule))):
+            if answer[f'map_{rule}'] != ','.join(map(str, [*counts, 0, 0])):
+                yield f'payload {k}: by {rule} the map has {answer[f"map_{rule}"]} and not {counts} blocks at 0, 1 and 2, and none at else'
+            if payload.screen is not None and int(answer[f'stale_{rule}']) != stale:
+                yield f'payload {k}: by {rule} {answer[f"stale_{rule}"]} pixels are stale, and not {stale}'
+
+
+def rules_of(session):
+    return ('v1',) if session.version == 1 else ('exact', 'to16', 'to32')
+
+
 def mean(session, answer, rule):
     return int(answer[f'error_{rule}']) / (3 * session.width * session.height)
 
 
 def means(session, answers):
     """How far each picture is off, by each rule."""
-    rules = ('v1',) if session.version == 1 else ('exact', 'to16', 'to32')
     return {rule: [mean(session, answer, rule) for answer, payload in zip(answers, session.payloads) if payload.screen is not None]
-            for rule in rules}
+            for rule in rules_of(session)}
 
 
 def wrong_in_rules(session, answers):
     """The rules for the width of V2 beside the exact one."""
     if session.version == 1:
         return
-    for rule, wide in (('to16', up(session.coded[0], 16)), ('to32', up(session.width, 32))):
+    for rule in ('to16', 'to32'):
+        wide = wide_of(session, rule)
         differ, far = sum(int(answer[f'else_{rule}']) for answer in answers), means(session, answers)[rule][-1]
         if wide == session.width and differ:
             yield f'{differ} samples are not the same by the exact rule and by {rule}, whose W is {wide}, too'
@@ -138,7 +193,7 @@ def wrong_in(session, answers):
         return [f'{len(session.payloads)} payloads have {len(answers)} answers']
     found = [f'payload {k}: {words}' for k, (payload, answer) in enumerate(zip(session.payloads, answers))
              for words in wrong_in_payload(session, payload, answer)]
-    return found or list(wrong_in_rules(session, answers))
+    return found or [*wrong_in_rules(session, answers), *wrong_in_maps(session, answers)]
 
 
 def told(name, session, answers, added):
@@ -159,7 +214,8 @@ def count_of(session, answers):
     counted = Counter({name: sum(int(answer[name]) for answer in answers) for name in ('apart',) + HABITS})
     for payload in session.payloads:
         counted.update(payloads=1, streams=len(payload.views), views=sum(map(len, payload.views)), planes=len(payload.planes),
-                       screens=payload.screen is not None)
+                       screens=payload.screen is not None,
+                       blocks=len(rules_of(session)) * up(session.width, 16) // 2 * (up(session.height, 16) // 2))
     return counted
 
 
@@ -233,7 +289,7 @@ def main(folder, names, own):
     total = sum(held.counted.values(), Counter())
     print(f'recorded: {total["payloads"]} payloads, {total["streams"]} H.264 streams, {total["views"]} view samples, '
           f'{total["planes"]} picture samples as FreeRDP\'s after its habits ({habits_in(total)}), '
-          f'{total["screens"]} pictures held to the screen{tried}, {len(held.found)} wrong')
+          f'{total["screens"]} pictures held to the screen, {total["blocks"]} bytes of maps{tried}, {len(held.found)} wrong')
     sys.exit(bool(held.found))
 
 

@@ -1,7 +1,8 @@
 /* The habits of recorded_habits.h beside FreeRDP itself: random views, main and auxiliary in any order, combined by its own call and by ours
    with the habits, onto planes that are kept. Every even width to 200 and widths of sessions, heights of 1 to 52: among them are odd heights,
    tails of more than 16 columns behind the limit and auxiliary views that follow no main view, which the stored recordings lack. Then each
-   habit is left out in turn, which has to be noticed.
+   habit is left out in turn, which has to be noticed. The map of stale colour, which FreeRDP has not, is 1 over the whole picture after a main
+   view, and 2 after an auxiliary view that follows one.
    By hand, outside the gate: for x86-64 with Debian's freerdp2-dev, 2.11.7.
 
      oracle/library.sh && cc -std=c99 -O2 -Wall -Wextra -Werror -Ibind/c tests/recorded_habits.c oracle/build/libhaythaw.a \
@@ -17,7 +18,8 @@ enum { COMBINES = 5, MORE = 48 }; /* for each size; columns of FreeRDP's planes 
 
 static Picture ours, before, theirs;
 static View view;
-static uint64_t state, compared, differ, acted_in_all[HABITS];
+static uint8_t stage; /* what the map has in every block of the picture */
+static uint64_t state, compared, differ, stale_wrong, acted_in_all[HABITS];
 
 static uint32_t any(void) /* splitmix64 */
 {
@@ -43,10 +45,13 @@ static void combine(const primitives_t *by, int type, int version)
     copy(&before, &ours);
     apply(!type ? haythaw_apply_main_view : version == 1 ? haythaw_apply_auxiliary_v1 : haythaw_apply_auxiliary_v2, &ours, list, 4, &view);
     if (type) take_habits(&ours, &before, version);
+    stage = !type ? 1 : stage ? 2 : 0;
 }
 
 static void compare(void)
 {
+    for (size_t k = 0; k < samples / 4; k++)
+        stale_wrong += ours.map[k] != (k / (stride / 2) < blocks_of(shown.height) && k % (stride / 2) < blocks_of(shown.width) ? stage : 0);
     for (int k = 0; k < PLANES; k++)
         for (size_t row = 0; row < shown.height; row++)
             for (size_t column = 0; column < shown.width; column++, compared++)
@@ -56,7 +61,7 @@ static void compare(void)
 static void begin(uint16_t width, uint16_t height)
 {
     shown = (Size){width, height}, coded = (Size){(uint16_t)((width + 15) / 16 * 16), (uint16_t)((height + 15) / 16 * 16)};
-    stride = coded.width, samples = luma_of(coded);
+    stride = coded.width, samples = luma_of(coded), stage = 0;
     ours = fresh(), before = fresh();
     for (int k = 0; k < PLANES; k++) {
         theirs.plane[k] = room((stride + MORE) * coded.height), view.plane[k] = room(luma_of(coded));
@@ -76,12 +81,13 @@ static void one_size(const primitives_t *by, uint16_t width, uint16_t height)
         compare();
     }
     for (int k = 0; k < PLANES; k++) free(ours.plane[k]), free(before.plane[k]), free(theirs.plane[k]), free(view.plane[k]);
+    free(ours.map), free(before.map);
 }
 
 static void every_size(const primitives_t *by)
 {
     static const uint16_t sessions[] = {334, 336, 378, 800};
-    state = compared = differ = 0;
+    state = compared = differ = stale_wrong = 0;
     memset(acted, 0, sizeof acted);
     for (uint16_t width = 2; width <= 200; width += 2)
         for (uint16_t height = 1; height <= 52; height += 1 + width % 3) one_size(by, width, height);
@@ -96,6 +102,7 @@ int main(void)
     every_size(by);
     const uint64_t all = compared;
     if (differ) wrong++, printf("recorded_habits: %llu samples differ\n", (unsigned long long)differ);
+    if (stale_wrong) wrong++, printf("recorded_habits: %llu blocks of the maps are wrong\n", (unsigned long long)stale_wrong);
     for (int k = 0; k < HABITS; k++) acted_in_all[k] = acted[k];
     for (int k = 0; k < HABITS; k++) {
         left_out = 1u << k;

@@ -13,7 +13,7 @@
 enum { PLANES = 3 };
 
 typedef struct { uint16_t width, height; } Size;
-typedef struct { uint8_t *plane[PLANES]; } Picture; /* y, u and v, stride x rows each */
+typedef struct { uint8_t *plane[PLANES], *map; } Picture; /* y, u and v, stride x rows each, and a quarter of that, the map of stale colour */
 typedef struct { uint8_t *plane[PLANES]; } View;    /* as wide and high as it was coded, nothing between the rows */
 
 static Size shown, coded;      /* the surface, and the views */
@@ -23,13 +23,13 @@ static size_t luma_of(Size s) { return (size_t)s.width * s.height; }
 static size_t chroma_of(Size s) { return luma_of(s) / 4; }
 
 /* The arguments of a call. */
-#define PICTURE(p) shown.width, shown.height, (p)->plane[0], samples, (p)->plane[1], samples, (p)->plane[2], samples
+#define PICTURE(p) shown.width, shown.height, (p)->plane[0], samples, (p)->plane[1], samples, (p)->plane[2], samples, (p)->map, samples / 4
 #define VIEW(v) coded.width, coded.height, coded.width, coded.width / 2u, (v)->plane[0], luma_of(coded), (v)->plane[1], chroma_of(coded), \
                 (v)->plane[2], chroma_of(coded)
 
 /* A call that applies a view. */
-typedef uint32_t Apply(uint16_t, uint16_t, uint8_t *, size_t, uint8_t *, size_t, uint8_t *, size_t, const uint16_t *, size_t, uint16_t,
-                       uint16_t, size_t, size_t, const uint8_t *, size_t, const uint8_t *, size_t, const uint8_t *, size_t);
+typedef uint32_t Apply(uint16_t, uint16_t, uint8_t *, size_t, uint8_t *, size_t, uint8_t *, size_t, uint8_t *, size_t, const uint16_t *,
+                       size_t, uint16_t, uint16_t, size_t, size_t, const uint8_t *, size_t, const uint8_t *, size_t, const uint8_t *, size_t);
 
 static void must(bool holds, const char *what)
 {
@@ -49,6 +49,7 @@ static Picture fresh(void)
 {
     Picture made;
     for (int k = 0; k < PLANES; k++) made.plane[k] = room(samples);
+    made.map = room(samples / 4);
     must(haythaw_new(PICTURE(&made)) == HAYTHAW_DONE, "haythaw_new refuses");
     return made;
 }
@@ -56,6 +57,7 @@ static Picture fresh(void)
 static void copy(Picture *to, const Picture *from)
 {
     for (int k = 0; k < PLANES; k++) memcpy(to->plane[k], from->plane[k], samples);
+    memcpy(to->map, from->map, samples / 4);
 }
 
 static void apply(Apply *call, Picture *p, const uint16_t *list, size_t numbers, const View *v)

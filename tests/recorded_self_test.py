@@ -1,5 +1,5 @@
 """Whether tests/recorded.py would notice it: one bit changed in a file of a session, at several places of every file, of .xz files in what
-they hold, too; and sessions that are read wrongly, FreeRDP's habits left out among that.
+they hold, too; and sessions that are read wrongly, FreeRDP's habits left out and a byte of the map changed among that.
 
 Each bit has to be noticed by the list of SHA-256, and each that reaches a comparison by that comparison, without the list. These reach none,
 and are the list's alone: the time of a frame within its limits; samples of a view outside the picture; a bit of a screen, whose mean alone is
@@ -124,6 +124,9 @@ def tried_readings(name, files, acted, wrong_in_session):
         tried += 1
         if not wrong_in_session(reading(session)):
             missed.append(f'{name}: not noticed: {reading.__name__}')
+    tried += 1
+    if not wrong_in_session(session, 1 << len(acted)):
+        missed.append(f'{name}: not noticed: a byte of the map changed')
     for bit, (habit, count) in enumerate(acted.items()):
         tried += bool(count)
         if count and not wrong_in_session(session, 1 << bit):

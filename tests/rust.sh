@@ -23,6 +23,6 @@ fi
 
 "$root/oracle/dropin.sh" --count 500
 "$root/oracle/dropin.sh" --self-test | tail -n 1
-# With debug assertions, where the original panics on a frame of wrong length.
-if "$root/oracle/original.sh" >/dev/null 2>&1; then (cd "$root/oracle" && cargo test --offline --quiet -p dropin --lib); fi
+# With debug assertions, where the original panics on a frame of wrong length; and what the runs beside it are made of.
+if "$root/oracle/original.sh" >/dev/null 2>&1; then (cd "$root/oracle" && cargo test --offline --quiet -p dropin -p runs --lib); fi
 echo 'rust: bind/rust passed'

@@ -11,15 +11,16 @@
 
 enum { CREATE_SURFACE = 9, WIRE_TO_SURFACE = 1, AVC444 = 14, AVC444V2 = 15, PAYLOAD = 25 };
 
-typedef uint32_t Apply(uint16_t, uint16_t, uint8_t *, size_t, uint8_t *, size_t, uint8_t *, size_t, const uint16_t *, size_t, uint16_t, uint16_t, size_t,
-                       size_t, const uint8_t *, size_t, const uint8_t *, size_t, const uint8_t *, size_t);
+typedef uint32_t Apply(uint16_t, uint16_t, uint8_t *, size_t, uint8_t *, size_t, uint8_t *, size_t, uint8_t *, size_t, const uint16_t *, size_t, uint16_t,
+                       uint16_t, size_t, size_t, const uint8_t *, size_t, const uint8_t *, size_t, const uint8_t *, size_t);
 typedef haythaw_answer Rects(const uint8_t *, size_t, uint16_t *, size_t);
 
-static struct { uint16_t width, height; size_t plane; uint8_t *y, *u, *v; } picture;
+static struct { uint16_t width, height; size_t plane, blocks; uint8_t *y, *u, *v, *map; } picture;
 static struct { uint16_t width, height; size_t luma_stride, chroma_stride, luma, chroma; uint8_t *at; } view;
 static Apply *auxiliary;
 
-#define PICTURE picture.width, picture.height, picture.y, picture.plane, picture.u, picture.plane, picture.v, picture.plane
+#define PICTURE \
+    picture.width, picture.height, picture.y, picture.plane, picture.u, picture.plane, picture.v, picture.plane, picture.map, picture.blocks
 
 static void stop(const char *what)
 {
@@ -38,6 +39,7 @@ static void create(uint16_t width, uint16_t height)
 {
     picture.width = width, picture.height = height, picture.plane = haythaw_allocation_size(width, height) / 3;
     picture.y = room(3 * picture.plane), picture.u = picture.y + picture.plane, picture.v = picture.u + picture.plane;
+    picture.blocks = haythaw_map_size(width, height), picture.map = room(picture.blocks);
     if (haythaw_new(PICTURE)) stop("a new picture is refused");
 }
 

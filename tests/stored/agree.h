@@ -2,8 +2,9 @@
  * luma sample of the pixels and each chroma sample of the padded planes is compared with what the demand says: the picture's inside a
  * rectangle, widened for chroma, and the earlier picture's own elsewhere. A case is run three times (sample).
  *
- * A line says how many bytes were compared, inside and elsewhere, and how many differ. The steps are the header's calls, one after the
- * other; where one refuses, the line says its number and how many bytes of all the lent buffers that step changed. */
+ * A line says how many bytes were compared, inside and elsewhere, and how many differ. Those of the map are compared too, and counted only
+ * where they differ. The steps are the header's calls, one after the other; where one refuses, the line says its number and how many bytes of
+ * all the lent buffers that step changed. */
 #ifndef STORED_AGREE_H
 #define STORED_AGREE_H
 
@@ -56,25 +57,6 @@ static void lend_samples(Args *a, enum slice first, enum whose whose, int run, s
 /* What was compared of luma and of chroma, how many bytes differ, the number of a refusal, and how many bytes it changed. */
 typedef struct { unsigned long inside[2], elsewhere[2], differ, number, changed; } Found;
 
-static size_t least(size_t a, size_t b)
-{
-    return a < b ? a : b;
-}
-
-/* Whether some rectangle takes the place; for chroma, widened. */
-static bool taken(const Args *a, bool chroma, size_t row, size_t col)
-{
-    const uint16_t *list = a->at[RECTS];
-    for (size_t k = 0; k + 4 <= a->count[RECTS]; k += 4) {
-        const uint16_t *r = list + k;
-        const size_t narrow[4] = {r[0], r[1], r[2], r[3]};
-        const size_t wide[4] = {r[0] / 2u * 2, r[1] / 2u * 2, up_to(least(r[2], a->width), 2), up_to(least(r[3], a->height), 2)};
-        if (within(chroma ? wide : narrow, row, col))
-            return true;
-    }
-    return false;
-}
-
 /* A plane of an earlier picture after the calls; of luma, the picture's pixels alone. */
 static void compare_plane(Found *f, const Args *a, enum whose whose, int plane, int run)
 {
@@ -87,6 +69,18 @@ static void compare_plane(Found *f, const Args *a, enum whose whose, int plane, 
         const bool inside = taken(a, chroma, row, col);
         ++*(inside ? &f->inside[chroma] : &f->elsewhere[chroma]);
         f->differ += ((const uint8_t *)a->at[plane])[k] != sample(inside ? PICTURE_ITSELF : whose, plane, run, k);
+    }
+}
+
+/* The map of an earlier picture after the calls: 2 in every block of a widened rectangle, and elsewhere as lend_map had it. */
+static void compare_map(Found *f, const Args *a)
+{
+    const size_t across = up_to(a->width, 16) / 2, blocks = across * (up_to(a->height, 16) / 2);
+    Args before = {0};
+    lend_map(&before, a->count[MAP]);
+    for (size_t k = 0; k < blocks; k++) {
+        const bool inside = taken(a, true, 2 * (k / across), 2 * (k % across));
+        f->differ += ((const uint8_t *)a->at[MAP])[k] != (inside ? 2 : ((const uint8_t *)before.at[MAP])[k]);
     }
 }
 
@@ -127,6 +121,7 @@ static void agree_run_once(Found *f, const AgreeCase *c, int run)
     for (int which = 0; which < 2; which++) {
         lend_samples(&to[which], Y, which == 0 ? FIRST_EARLIER : SECOND_EARLIER, run, which == 0 ? ROOM : c->second_v);
         lend_numbers(&to[which], RECTS, c->list, c->numbers);
+        lend_map(&to[which], ROOM / 4);
     }
     uint32_t number = through(0, &from, &to[0]);
     if (number == 0)
@@ -134,6 +129,8 @@ static void agree_run_once(Found *f, const AgreeCase *c, int run)
     for (int which = 0; which < 2 && number == 0; which++)
         for (int p = Y; p <= V; p++)
             compare_plane(f, &to[which], which == 0 ? FIRST_EARLIER : SECOND_EARLIER, p, run);
+    for (int which = 0; which < 2 && number == 0; which++)
+        compare_map(f, &to[which]);
     if (number != 0)
         f->number = number, f->changed += changed_bytes();
     over(MAIN);

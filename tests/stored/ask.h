@@ -1,11 +1,11 @@
 /* A call of the library for a stored line, and what the header says of every call, looked at each time: what is refused or absent
- * answers nothing else and changes no byte, and what is done changes no byte but those that it may write.
+ * answers nothing else and changes no byte, and what is done changes no byte but those that it may write, and makes of the map what the rules say.
  *
  * The self-test alters one answer here, on its way from the library to the line: a field of it, or a byte of a lent buffer. */
 #ifndef ASK_H
 #define ASK_H
 
-#include "test/check.h"
+#include "map.h"
 
 /* How wide the views of a split are: as the stride or, by the 32 rule, as the width rounded up to 32. */
 static size_t views_width(enum call call, const Args *a)
@@ -25,8 +25,8 @@ static size_t may_write(enum call call, const Args *a, const Result *r, enum sli
     if (r->number != 0)
         return 0;
     switch (call) {
-    case NEW: case FROM_RGBA: case FROM_RGBA_RUST: case MAIN: return s <= V ? plane : 0;
-    case AUX_V1: case AUX_V2: case AUX_V2_32: case AUX_V2_EXACT: return s == U || s == V ? plane : 0;
+    case NEW: case FROM_RGBA: case FROM_RGBA_RUST: case MAIN: return s <= V ? plane : s == MAP ? plane / 4 : 0;
+    case AUX_V1: case AUX_V2: case AUX_V2_32: case AUX_V2_EXACT: return s == U || s == V ? plane : s == MAP ? plane / 4 : 0;
     case SPLIT_V1: case SPLIT_V2: case SPLIT_V2_32: return s == MAIN_Y || s == AUX_Y ? luma : s > MAIN_Y && s <= AUX_V ? luma / 4 : 0;
     case TO_RGBA: case VIEW_TO_RGBA: case ANNEX_B: case WRITE: return s == OUT ? r->count : 0;
     case LUMA_RECTS: case CHROMA_RECTS: return s == NUMBERS ? 2 * r->count : 0;
@@ -58,7 +58,7 @@ static const Field *fields_of(int call)
 {
     static const Field number[MOST_FIELDS + 1] = {FIELD(number)}, yes[MOST_FIELDS + 1] = {FIELD(yes)}, size[MOST_FIELDS + 1] = {FIELD(count)},
         answer[MOST_FIELDS + 1] = {FIELD(number), FIELD(count)},
-        pixels[MOST_FIELDS + 1] = {FIELD(number), FIELD(count), FIELD(filtered_u), FIELD(filtered_v)},
+        pixels[MOST_FIELDS + 1] = {FIELD(number), FIELD(count), FIELD(filtered_u), FIELD(filtered_v), FIELD(stale)},
         row[MOST_FIELDS + 1] = {FIELD(number), FIELD(present), FIELD(start), FIELD(length)},
         views[MOST_FIELDS + 1] = {FIELD(number), FIELD(width), FIELD(height), FIELD(luma_stride), FIELD(chroma_stride)},
         avc444[MOST_FIELDS + 1] = {FIELD(number), FIELD(kind), STREAM(luma), STREAM(chroma)},
@@ -139,6 +139,10 @@ static Result asked(enum call call, const Args *a)
     else
         for (int s = 0; s < SLICES; s++)
             check(kept_from(a->at[s], may_write(call, a, &r, (enum slice)s)), call_names[call], "a byte changed that may not be written");
+    if (r.number == 0 && takes_map(call))
+        check(map_right(call, a), call_names[call], "the map");
+    if (r.number == 0 && call == TO_RGBA)
+        check(r.stale == stale_pixels(a), call_names[call], "how many pixels are stale");
     return r;
 }
 

@@ -18,6 +18,7 @@ static void lend_planes(Args *a, enum slice first, size_t place)
 static void applied_words(Stored *c)
 {
     lend_planes(&c->a, VIEW_Y, c->view_source);
+    lend_map(&c->a, RANDOM_PLANE / 4);
     lend_numbers(&c->a, RECTS, c->rects, (size_t)4 * c->count);
     if (asked(c->which == 0 ? AUX_V1 : AUX_V2, &c->a).number != 0) {
         printf(" refused\n");

@@ -83,6 +83,8 @@ static void picture_line(size_t index, const uint8_t *s)
         a->left = c.rects[0], a->top = c.rects[1], a->right = c.rects[2], a->bottom = c.rects[3];
         if (c.which == 2)
             paint_view(a, c.view_source);
+        else
+            lend_map(a, a->count[MAP]);
         lend_as(a, OUT, PIXELS_ROOM, NULL);
         pixels_words(a, c.which == 1 ? TO_RGBA : VIEW_TO_RGBA);
     } else {

@@ -5,19 +5,20 @@
 
 #include "cases.h"
 
-/* A picture's size and the lengths of its planes; a list of so many numbers; the strides of a view of 16 x 16 and the lengths of its
- * planes. A picture of 5 x 5 has planes of 16 x 16, and is 5 wide by the rule Exact, so that all its columns are taken of such a view too.
- * All bytes of the picture are 201 before, and all of the view 199. */
+/* A picture's size and the lengths of its planes and of its map; a list of so many numbers; the strides of a view of 16 x 16 and the lengths
+ * of its planes. A picture of 5 x 5 has planes of 16 x 16, and is 5 wide by the rule Exact, so that all its columns are taken of such a view
+ * too. All bytes of the planes are 201 before, and all of the view 199. */
 enum { VIEW_SIDE = 16, VIEW_BYTE = 199, APPLIED_PLANE = 256 };
 typedef struct {
     const char *name;
     uint16_t width, height;
-    size_t planes[3], numbers;
+    size_t planes[4], numbers;
     uint16_t list[8];
     size_t luma, chroma, view[3];
 } AppliedCase;
-#define EXACT_PLANES {256, 256, 256}
-#define SHORT_PLANES {255, 255, 255}
+#define EXACT_PLANES {256, 256, 256, 64}
+#define SHORT_PLANES {255, 255, 255, 64}
+#define SHORT_MAP {256, 256, 256, 63}
 #define LIST_OF(n) n, {0, 0, 5, 5, 0, 0, 5, 5}
 #define EXACT_VIEW 16, 8, {256, 64, 64}
 static const AppliedCase applied_cases[] = {
@@ -28,10 +29,11 @@ static const AppliedCase applied_cases[] = {
     {"list of 3", 5, 5, EXACT_PLANES, LIST_OF(3), EXACT_VIEW},
     {"list of 5", 5, 5, EXACT_PLANES, LIST_OF(5), EXACT_VIEW},
     /* planes */
-    {"one over", 5, 5, {257, 257, 257}, LIST_OF(4), 16, 8, {257, 65, 65}},
-    {"y short", 5, 5, {255, 256, 256}, LIST_OF(4), EXACT_VIEW},
-    {"u short", 5, 5, {256, 255, 256}, LIST_OF(4), EXACT_VIEW},
-    {"v short", 5, 5, {256, 256, 255}, LIST_OF(4), EXACT_VIEW},
+    {"one over", 5, 5, {257, 257, 257, 65}, LIST_OF(4), 16, 8, {257, 65, 65}},
+    {"y short", 5, 5, {255, 256, 256, 64}, LIST_OF(4), EXACT_VIEW},
+    {"u short", 5, 5, {256, 255, 256, 64}, LIST_OF(4), EXACT_VIEW},
+    {"v short", 5, 5, {256, 256, 255, 64}, LIST_OF(4), EXACT_VIEW},
+    {"map short", 5, 5, SHORT_MAP, LIST_OF(4), EXACT_VIEW},
     /* views */
     {"wide", 5, 5, EXACT_PLANES, LIST_OF(4), 17, 9, {272, 72, 72}},
     {"luma 15", 5, 5, EXACT_PLANES, LIST_OF(4), 15, 8, {256, 64, 64}},
@@ -50,11 +52,13 @@ static const AppliedCase applied_cases[] = {
     {"7 and 4", 5, 5, EXACT_PLANES, LIST_OF(3), 16, 8, {255, 64, 64}},
     {"3 and 4", 5, 5, EXACT_PLANES, LIST_OF(4), 15, 8, {239, 64, 64}},
     {"all four", 5, 5, SHORT_PLANES, LIST_OF(3), 15, 8, {239, 64, 64}},
+    {"7, and 1 of the map", 5, 5, SHORT_MAP, LIST_OF(3), EXACT_VIEW},
+    {"all four, 1 of the map", 5, 5, SHORT_MAP, LIST_OF(3), 15, 8, {239, 64, 64}},
     /* no pixels: the planes are empty */
-    {"0 x 0", 0, 0, {0, 0, 0}, LIST_OF(4), EXACT_VIEW},
-    {"0 x 5", 0, 5, {0, 0, 0}, LIST_OF(4), EXACT_VIEW},
-    {"5 x 0", 5, 0, {0, 0, 0}, LIST_OF(4), EXACT_VIEW},
-    {"0 x 0, list of 3", 0, 0, {0, 0, 0}, LIST_OF(3), EXACT_VIEW},
+    {"0 x 0", 0, 0, {0, 0, 0, 0}, LIST_OF(4), EXACT_VIEW},
+    {"0 x 5", 0, 5, {0, 0, 0, 0}, LIST_OF(4), EXACT_VIEW},
+    {"5 x 0", 5, 0, {0, 0, 0, 0}, LIST_OF(4), EXACT_VIEW},
+    {"0 x 0, list of 3", 0, 0, {0, 0, 0, 0}, LIST_OF(3), EXACT_VIEW},
     /* rectangles */
     {"no column", 5, 5, EXACT_PLANES, 4, {4, 0, 4, 4}, EXACT_VIEW},
     {"reversed", 5, 5, EXACT_PLANES, 4, {4, 4, 0, 0}, EXACT_VIEW},
@@ -72,10 +76,11 @@ static const AppliedCase applied_32_cases[] = {
     {"list of 3", 5, 5, EXACT_PLANES, LIST_OF(3), EXACT_32},
     {"list of 5", 5, 5, EXACT_PLANES, LIST_OF(5), EXACT_32},
     /* planes */
-    {"one over", 5, 5, {257, 257, 257}, LIST_OF(4), 32, 16, {513, 129, 129}},
-    {"y short", 5, 5, {255, 256, 256}, LIST_OF(4), EXACT_32},
-    {"u short", 5, 5, {256, 255, 256}, LIST_OF(4), EXACT_32},
-    {"v short", 5, 5, {256, 256, 255}, LIST_OF(4), EXACT_32},
+    {"one over", 5, 5, {257, 257, 257, 65}, LIST_OF(4), 32, 16, {513, 129, 129}},
+    {"y short", 5, 5, {255, 256, 256, 64}, LIST_OF(4), EXACT_32},
+    {"u short", 5, 5, {256, 255, 256, 64}, LIST_OF(4), EXACT_32},
+    {"v short", 5, 5, {256, 256, 255, 64}, LIST_OF(4), EXACT_32},
+    {"map short", 5, 5, SHORT_MAP, LIST_OF(4), EXACT_32},
     /* views */
     {"wide", 5, 5, EXACT_PLANES, LIST_OF(4), 33, 17, {528, 136, 136}},
     {"luma 31", 5, 5, EXACT_PLANES, LIST_OF(4), 31, 16, {512, 128, 128}},
@@ -94,12 +99,14 @@ static const AppliedCase applied_32_cases[] = {
     {"7 and 4", 5, 5, EXACT_PLANES, LIST_OF(3), 32, 16, {511, 128, 128}},
     {"3 and 4", 5, 5, EXACT_PLANES, LIST_OF(4), 31, 16, {495, 128, 128}},
     {"all four", 5, 5, SHORT_PLANES, LIST_OF(3), 31, 16, {495, 128, 128}},
+    {"7, and 1 of the map", 5, 5, SHORT_MAP, LIST_OF(3), EXACT_32},
+    {"all four, 1 of the map", 5, 5, SHORT_MAP, LIST_OF(3), 31, 16, {495, 128, 128}},
     /* no pixels: the planes are empty */
-    {"0 x 0", 0, 0, {0, 0, 0}, LIST_OF(4), EXACT_32},
-    {"0 x 5", 0, 5, {0, 0, 0}, LIST_OF(4), EXACT_32},
-    {"5 x 0", 5, 0, {0, 0, 0}, LIST_OF(4), EXACT_32},
-    {"0 x 0, list of 3", 0, 0, {0, 0, 0}, LIST_OF(3), EXACT_32},
-    {"65535 x 0", 65535, 0, {0, 0, 0}, LIST_OF(4), EXACT_32},
+    {"0 x 0", 0, 0, {0, 0, 0, 0}, LIST_OF(4), EXACT_32},
+    {"0 x 5", 0, 5, {0, 0, 0, 0}, LIST_OF(4), EXACT_32},
+    {"5 x 0", 5, 0, {0, 0, 0, 0}, LIST_OF(4), EXACT_32},
+    {"0 x 0, list of 3", 0, 0, {0, 0, 0, 0}, LIST_OF(3), EXACT_32},
+    {"65535 x 0", 65535, 0, {0, 0, 0, 0}, LIST_OF(4), EXACT_32},
     /* rectangles */
     {"no column", 5, 5, EXACT_PLANES, 4, {4, 0, 4, 4}, EXACT_32},
     {"reversed", 5, 5, EXACT_PLANES, 4, {4, 4, 0, 0}, EXACT_32},
@@ -134,6 +141,7 @@ static void applied_line(const AppliedFile *file, const AppliedCase *c)
         lend_all(&a, (enum slice)(Y + p), c->planes[p], UNWRITTEN);
         lend_all(&a, (enum slice)(VIEW_Y + p), c->view[p], VIEW_BYTE);
     }
+    lend_map(&a, c->planes[3]);
     lend_numbers(&a, RECTS, c->list, c->numbers);
     const Result r = asked(file->call, &a);
     printf("%s: ", file->name);

@@ -8,52 +8,59 @@
 
 enum { PIXEL_BYTE = 200, GREY = 128, FIVE_PLANE = 256 };
 
-/* The call, a picture's size, and the lengths of its planes; for the call from RGBA, of its pixels. 5 x 5 has planes of 16 x 16. */
-typedef struct { const char *name; enum call call; uint16_t width, height; size_t rgba, lengths[3]; } PlanesCase;
+/* The call, a picture's size, and the lengths of its planes and of its map; for the call from RGBA, of its pixels. 5 x 5 has planes of 16 x 16
+ * and a map of 8 x 8. */
+typedef struct { const char *name; enum call call; uint16_t width, height; size_t rgba, lengths[4]; } PlanesCase;
 static const PlanesCase planes_cases[] = {
-    {"new: exact", NEW, 5, 5, 0, {256, 256, 256}},
-    {"new: one over", NEW, 5, 5, 0, {257, 257, 257}},
-    {"new: y short", NEW, 5, 5, 0, {255, 256, 256}},
-    {"new: u short", NEW, 5, 5, 0, {256, 255, 256}},
-    {"new: v short", NEW, 5, 5, 0, {256, 256, 255}},
-    {"new: empty", NEW, 5, 5, 0, {0, 0, 0}},
-    {"new: 0 x 0", NEW, 0, 0, 0, {0, 0, 0}},
-    {"new: 0 x 5", NEW, 0, 5, 0, {0, 0, 0}},
-    {"new: 5 x 0", NEW, 5, 0, 0, {0, 0, 0}},
-    {"new: 0 x 5, over", NEW, 0, 5, 0, {257, 257, 257}},
-    {"new: 16 x 16", NEW, 16, 16, 0, {256, 256, 256}},
-    {"new: 17 x 16", NEW, 17, 16, 0, {257, 257, 257}},
-    {"new: 16 x 17", NEW, 16, 17, 0, {257, 257, 257}},
-    {"new: largest", NEW, 65535, 65535, 0, {257, 257, 257}},
+    {"new: exact", NEW, 5, 5, 0, {256, 256, 256, 64}},
+    {"new: one over", NEW, 5, 5, 0, {257, 257, 257, 65}},
+    {"new: y short", NEW, 5, 5, 0, {255, 256, 256, 64}},
+    {"new: u short", NEW, 5, 5, 0, {256, 255, 256, 64}},
+    {"new: v short", NEW, 5, 5, 0, {256, 256, 255, 64}},
+    {"new: map short", NEW, 5, 5, 0, {256, 256, 256, 63}},
+    {"new: map empty", NEW, 5, 5, 0, {256, 256, 256, 0}},
+    {"new: empty", NEW, 5, 5, 0, {0, 0, 0, 0}},
+    {"new: 0 x 0", NEW, 0, 0, 0, {0, 0, 0, 0}},
+    {"new: 0 x 5", NEW, 0, 5, 0, {0, 0, 0, 0}},
+    {"new: 5 x 0", NEW, 5, 0, 0, {0, 0, 0, 0}},
+    {"new: 0 x 5, over", NEW, 0, 5, 0, {257, 257, 257, 65}},
+    {"new: 16 x 16", NEW, 16, 16, 0, {256, 256, 256, 64}},
+    {"new: 17 x 16", NEW, 17, 16, 0, {257, 257, 257, 65}},
+    {"new: 16 x 17", NEW, 16, 17, 0, {257, 257, 257, 65}},
+    {"new: largest", NEW, 65535, 65535, 0, {257, 257, 257, 65}},
     /* 5 x 5 has 100 bytes of pixels, all of them 200: Y is 199, U and V are 128. In the padding Y is 199 too, or 0 as the Rust has it. */
-    {"from: exact", FROM_RGBA, 5, 5, 100, {256, 256, 256}},
-    {"from: one over", FROM_RGBA, 5, 5, 101, {257, 257, 257}},
-    {"from: rgba short", FROM_RGBA, 5, 5, 99, {256, 256, 256}},
-    {"from: y short", FROM_RGBA, 5, 5, 100, {255, 256, 256}},
-    {"from: u short", FROM_RGBA, 5, 5, 100, {256, 255, 256}},
-    {"from: v short", FROM_RGBA, 5, 5, 100, {256, 256, 255}},
-    {"from: rgba, y short", FROM_RGBA, 5, 5, 99, {255, 256, 256}},
-    {"from: rgba, u short", FROM_RGBA, 5, 5, 99, {256, 255, 256}},
-    {"from: rgba, v short", FROM_RGBA, 5, 5, 99, {256, 256, 255}},
-    {"from: empty", FROM_RGBA, 5, 5, 0, {0, 0, 0}},
-    {"from: 0 x 0", FROM_RGBA, 0, 0, 0, {0, 0, 0}},
-    {"from: 0 x 5", FROM_RGBA, 0, 5, 0, {0, 0, 0}},
-    {"from: 5 x 0", FROM_RGBA, 5, 0, 0, {0, 0, 0}},
-    {"from: largest", FROM_RGBA, 65535, 65535, 101, {257, 257, 257}},
-    {"from rust: exact", FROM_RGBA_RUST, 5, 5, 100, {256, 256, 256}},
-    {"from rust: one over", FROM_RGBA_RUST, 5, 5, 101, {257, 257, 257}},
-    {"from rust: rgba short", FROM_RGBA_RUST, 5, 5, 99, {256, 256, 256}},
-    {"from rust: y short", FROM_RGBA_RUST, 5, 5, 100, {255, 256, 256}},
-    {"from rust: u short", FROM_RGBA_RUST, 5, 5, 100, {256, 255, 256}},
-    {"from rust: v short", FROM_RGBA_RUST, 5, 5, 100, {256, 256, 255}},
-    {"from rust: rgba, y short", FROM_RGBA_RUST, 5, 5, 99, {255, 256, 256}},
-    {"from rust: rgba, u short", FROM_RGBA_RUST, 5, 5, 99, {256, 255, 256}},
-    {"from rust: rgba, v short", FROM_RGBA_RUST, 5, 5, 99, {256, 256, 255}},
-    {"from rust: empty", FROM_RGBA_RUST, 5, 5, 0, {0, 0, 0}},
-    {"from rust: 0 x 0", FROM_RGBA_RUST, 0, 0, 0, {0, 0, 0}},
-    {"from rust: 0 x 5", FROM_RGBA_RUST, 0, 5, 0, {0, 0, 0}},
-    {"from rust: 5 x 0", FROM_RGBA_RUST, 5, 0, 0, {0, 0, 0}},
-    {"from rust: largest", FROM_RGBA_RUST, 65535, 65535, 101, {257, 257, 257}},
+    {"from: exact", FROM_RGBA, 5, 5, 100, {256, 256, 256, 64}},
+    {"from: one over", FROM_RGBA, 5, 5, 101, {257, 257, 257, 65}},
+    {"from: rgba short", FROM_RGBA, 5, 5, 99, {256, 256, 256, 64}},
+    {"from: y short", FROM_RGBA, 5, 5, 100, {255, 256, 256, 64}},
+    {"from: u short", FROM_RGBA, 5, 5, 100, {256, 255, 256, 64}},
+    {"from: v short", FROM_RGBA, 5, 5, 100, {256, 256, 255, 64}},
+    {"from: map short", FROM_RGBA, 5, 5, 100, {256, 256, 256, 63}},
+    {"from: rgba, y short", FROM_RGBA, 5, 5, 99, {255, 256, 256, 64}},
+    {"from: rgba, u short", FROM_RGBA, 5, 5, 99, {256, 255, 256, 64}},
+    {"from: rgba, v short", FROM_RGBA, 5, 5, 99, {256, 256, 255, 64}},
+    {"from: rgba, map short", FROM_RGBA, 5, 5, 99, {256, 256, 256, 63}},
+    {"from: empty", FROM_RGBA, 5, 5, 0, {0, 0, 0, 0}},
+    {"from: 0 x 0", FROM_RGBA, 0, 0, 0, {0, 0, 0, 0}},
+    {"from: 0 x 5", FROM_RGBA, 0, 5, 0, {0, 0, 0, 0}},
+    {"from: 5 x 0", FROM_RGBA, 5, 0, 0, {0, 0, 0, 0}},
+    {"from: largest", FROM_RGBA, 65535, 65535, 101, {257, 257, 257, 65}},
+    {"from rust: exact", FROM_RGBA_RUST, 5, 5, 100, {256, 256, 256, 64}},
+    {"from rust: one over", FROM_RGBA_RUST, 5, 5, 101, {257, 257, 257, 65}},
+    {"from rust: rgba short", FROM_RGBA_RUST, 5, 5, 99, {256, 256, 256, 64}},
+    {"from rust: y short", FROM_RGBA_RUST, 5, 5, 100, {255, 256, 256, 64}},
+    {"from rust: u short", FROM_RGBA_RUST, 5, 5, 100, {256, 255, 256, 64}},
+    {"from rust: v short", FROM_RGBA_RUST, 5, 5, 100, {256, 256, 255, 64}},
+    {"from rust: map short", FROM_RGBA_RUST, 5, 5, 100, {256, 256, 256, 63}},
+    {"from rust: rgba, y short", FROM_RGBA_RUST, 5, 5, 99, {255, 256, 256, 64}},
+    {"from rust: rgba, u short", FROM_RGBA_RUST, 5, 5, 99, {256, 255, 256, 64}},
+    {"from rust: rgba, v short", FROM_RGBA_RUST, 5, 5, 99, {256, 256, 255, 64}},
+    {"from rust: rgba, map short", FROM_RGBA_RUST, 5, 5, 99, {256, 256, 256, 63}},
+    {"from rust: empty", FROM_RGBA_RUST, 5, 5, 0, {0, 0, 0, 0}},
+    {"from rust: 0 x 0", FROM_RGBA_RUST, 0, 0, 0, {0, 0, 0, 0}},
+    {"from rust: 0 x 5", FROM_RGBA_RUST, 0, 5, 0, {0, 0, 0, 0}},
+    {"from rust: 5 x 0", FROM_RGBA_RUST, 5, 0, 0, {0, 0, 0, 0}},
+    {"from rust: largest", FROM_RGBA_RUST, 65535, 65535, 101, {257, 257, 257, 65}},
 };
 
 static void planes_line(const PlanesCase *c)
@@ -62,6 +69,7 @@ static void planes_line(const PlanesCase *c)
     a.width = c->width, a.height = c->height;
     for (int p = 0; p < 3; p++)
         lend_all(&a, (enum slice)(Y + p), c->lengths[p], UNWRITTEN);
+    lend_map(&a, c->lengths[3]);
     lend_all(&a, RGBA, c->rgba, PIXEL_BYTE);
     const Result r = asked(c->call, &a);
     say_answer(c->name, &r);
@@ -72,28 +80,30 @@ static void planes_line(const PlanesCase *c)
     over(c->call);
 }
 
-/* A picture's size, the lengths of its planes, a rectangle, and the bytes of output lent. All bytes of the planes are 128, and so are red,
- * green and blue: each block is its own average, so that the filter replaces nothing. */
-typedef struct { const char *name; uint16_t width, height; size_t lengths[3]; uint16_t rect[4]; size_t room; } PixelsCase;
+/* A picture's size, the lengths of its planes and of its map, a rectangle, and the bytes of output lent. All bytes of the planes are 128, and
+ * so are red, green and blue: each block is its own average, so that the filter replaces nothing. */
+typedef struct { const char *name; uint16_t width, height; size_t lengths[4]; uint16_t rect[4]; size_t room; } PixelsCase;
 #define WHOLE_FIVE {0, 0, 5, 5}
-#define FIVE_PLANES {256, 256, 256}
+#define FIVE_PLANES {256, 256, 256, 64}
 static const PixelsCase pixels_cases[] = {
     /* the whole of a 5 x 5 picture: 100 bytes */
     {"to: exact", 5, 5, FIVE_PLANES, WHOLE_FIVE, 100},
     {"to: one over", 5, 5, FIVE_PLANES, WHOLE_FIVE, 101},
     {"to: out short", 5, 5, FIVE_PLANES, WHOLE_FIVE, 99},
     {"to: out empty", 5, 5, FIVE_PLANES, WHOLE_FIVE, 0},
-    {"to: y short", 5, 5, {255, 256, 256}, WHOLE_FIVE, 100},
-    {"to: u short", 5, 5, {256, 255, 256}, WHOLE_FIVE, 100},
-    {"to: v short", 5, 5, {256, 256, 255}, WHOLE_FIVE, 100},
-    {"to: y, out short", 5, 5, {255, 256, 256}, WHOLE_FIVE, 99},
-    {"to: u, out short", 5, 5, {256, 255, 256}, WHOLE_FIVE, 99},
-    {"to: v, out short", 5, 5, {256, 256, 255}, WHOLE_FIVE, 99},
-    {"to: all empty", 5, 5, {0, 0, 0}, WHOLE_FIVE, 0},
+    {"to: y short", 5, 5, {255, 256, 256, 64}, WHOLE_FIVE, 100},
+    {"to: u short", 5, 5, {256, 255, 256, 64}, WHOLE_FIVE, 100},
+    {"to: v short", 5, 5, {256, 256, 255, 64}, WHOLE_FIVE, 100},
+    {"to: map short", 5, 5, {256, 256, 256, 63}, WHOLE_FIVE, 100},
+    {"to: y, out short", 5, 5, {255, 256, 256, 64}, WHOLE_FIVE, 99},
+    {"to: u, out short", 5, 5, {256, 255, 256, 64}, WHOLE_FIVE, 99},
+    {"to: v, out short", 5, 5, {256, 256, 255, 64}, WHOLE_FIVE, 99},
+    {"to: map, out short", 5, 5, {256, 256, 256, 63}, WHOLE_FIVE, 99},
+    {"to: all empty", 5, 5, {0, 0, 0, 0}, WHOLE_FIVE, 0},
     /* no pixels */
-    {"to: 0 x 0", 0, 0, {0, 0, 0}, WHOLE_FIVE, 0},
-    {"to: 0 x 5", 0, 5, {0, 0, 0}, WHOLE_FIVE, 0},
-    {"to: 5 x 0", 5, 0, {0, 0, 0}, WHOLE_FIVE, 0},
+    {"to: 0 x 0", 0, 0, {0, 0, 0, 0}, WHOLE_FIVE, 0},
+    {"to: 0 x 5", 0, 5, {0, 0, 0, 0}, WHOLE_FIVE, 0},
+    {"to: 5 x 0", 5, 0, {0, 0, 0, 0}, WHOLE_FIVE, 0},
     /* rectangles with nothing in them */
     {"to: no column", 5, 5, FIVE_PLANES, {2, 1, 2, 4}, 0},
     {"to: no row", 5, 5, FIVE_PLANES, {1, 2, 4, 2}, 0},
@@ -102,7 +112,8 @@ static const PixelsCase pixels_cases[] = {
     {"to: off right", 5, 5, FIVE_PLANES, {5, 0, 9, 5}, 0},
     {"to: off below", 5, 5, FIVE_PLANES, {0, 5, 5, 9}, 0},
     {"to: far off", 5, 5, FIVE_PLANES, {65535, 65535, 65535, 65535}, 0},
-    {"to: no row, y short", 5, 5, {255, 256, 256}, {1, 2, 4, 2}, 0},
+    {"to: no row, y short", 5, 5, {255, 256, 256, 64}, {1, 2, 4, 2}, 0},
+    {"to: no row, map short", 5, 5, {256, 256, 256, 63}, {1, 2, 4, 2}, 0},
     /* parts */
     {"to: corner", 5, 5, FIVE_PLANES, {4, 4, 9, 9}, 4},
     {"to: corner, short", 5, 5, FIVE_PLANES, {4, 4, 9, 9}, 3},
@@ -131,6 +142,7 @@ static void pixels_line(const PixelsCase *c)
     a.left = c->rect[0], a.top = c->rect[1], a.right = c->rect[2], a.bottom = c->rect[3];
     for (int p = 0; p < 3; p++)
         lend_all(&a, (enum slice)(Y + p), c->lengths[p], GREY);
+    lend_map(&a, c->lengths[3]);
     lend_all(&a, OUT, c->room, UNWRITTEN);
     converted_line(c->name, TO_RGBA, &a, Y);
 }
