@@ -26,8 +26,8 @@ static int nearest(const uint8_t *colour)
 
 static int extremes(int step, int below, int above)
 {
-    static uint8_t own[3][256];
-    if (haythaw_from_rgba(bar[step], 4, 1, 1, own[0], 256, own[1], 256, own[2], 256) != HAYTHAW_DONE)
+    static uint8_t own[3][256], map[64];
+    if (haythaw_from_rgba(bar[step], 4, 1, 1, own[0], 256, own[1], 256, own[2], 256, map, 64) != HAYTHAW_DONE)
         return 0;
     const int count = below + above + 1;
     const uint16_t side = (uint16_t)(2 * count);

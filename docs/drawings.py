@@ -114,6 +114,29 @@ def main_chroma(view, area):
     return {(r, c) for r in range(area.top, min(area.bottom, view.height)) for c in range(area.left, min(area.right, view.width))}
 
 
+# --- The rules: layout/specs/Exists.antt, map_apply/specs/Blocks.antt, place by place.
+
+def present(view, spot):
+    """Whether the view has this sample."""
+    part, r, c = spot
+    return (r < view.height and c < view.width) if part == 'Y' else (r < (view.height + 1) // 2 and c < (view.width + 1) // 2)
+
+
+def fed(to, view, r, c):
+    """Whether the auxiliary view gives both U and V at this row and column."""
+    return left_out(r, c) and present(view, to('U', r, c)) and present(view, to('V', r, c))
+
+
+def main_marks(view, i, j):
+    """Whether a main view takes any chroma of the block, where a rectangle has all of it."""
+    return any(r < view.height and c < view.width for r in (2 * i, 2 * i + 1) for c in (2 * j, 2 * j + 1))
+
+
+def auxiliary_completes(to, view, i, j):
+    """Whether an auxiliary view takes all three of the block's other samples."""
+    return all(fed(to, view, r, c) for r, c in ((2 * i, 2 * j + 1), (2 * i + 1, 2 * j), (2 * i + 1, 2 * j + 1)))
+
+
 # --- The rules: wire_fields/specs/Fields.antt, wire_read/specs/Format.antt, wire_write/specs/Writing.antt.
 
 Parts = namedtuple('Parts', 'count rects pairs h264')
@@ -544,6 +567,77 @@ def draw_widening():
     return picture(low + 268, 'Widening: chroma is taken in whole 2x2 blocks', ' '.join(said), out)
 
 
+# --- map.svg: how a block of the map changes, and what views complete.
+
+HELD = {0: (PALE, 'never had a main view'), 1: (ORANGE, 'main since the last auxiliary'), 2: (GREEN, 'complete')}
+BLOCK = 20
+
+
+def state(x, y, number):
+    """A number of the map, as a disc."""
+    colour, words = HELD[number]
+    return [f'<circle cx="{x}" cy="{y}" r="27" fill="{colour}" stroke="{INK}" stroke-width="1.5"/>', text(x, y + 7, number, 20, 'middle', font_weight='bold'),
+            text(x, y + 47, words, 12, 'middle')]
+
+
+def states(y):
+    """The three numbers and the calls that lead from one to another."""
+    out = [*state(200, y, 0), *state(480, y, 1), *state(760, y, 2)]
+    arrows = [(f'M60 {y}H168', 'new', 112, y - 9), (f'M228 {y}H448', 'main view: any chroma of the block', 338, y - 9),
+              (f'M508 {y}H728', 'auxiliary view: all three others', 618, y - 9), (f'M852 {y}H792', 'from RGBA', 838, y - 9),
+              (f'M742 {y - 22}C690 {y - 74} 550 {y - 74} 501 {y - 26}', 'main view', 620, y - 68),
+              (f'M468 {y - 25}C440 {y - 80} 494 {y - 80} 484 {y - 31}', 'main view', 430, y - 62)]
+    for way, words, x, low in arrows:
+        out += [path(way, INK, 1.5, marker_end='url(#tip)'), text(x, low, words, 12, 'middle')]
+    kept = [text(x, y + 65, f'an auxiliary view leaves {number}', 11, 'middle', fill='#444444') for x, number in ((200, 0), (760, 2))]
+    return out + kept
+
+
+def map_panel(x, y, across, held):
+    """The blocks of a map, 8 rows, each with what it holds."""
+    out = []
+    for i, j in ((i, j) for i in range(8) for j in range(across)):
+        colour = HELD[held(i, j)][0]
+        out += [box(x + j * BLOCK, y + i * BLOCK, BLOCK, BLOCK, colour, GREY), text(x + j * BLOCK + BLOCK / 2, y + i * BLOCK + 14, held(i, j), 10, 'middle')]
+    out += [text(x - 5, y + i * BLOCK + 14, i, 10, 'end', fill='#444444') for i in range(8)]
+    return out + [text(x + j * BLOCK + BLOCK / 2, y - 4, j, 10, 'middle', fill='#444444') for j in range(across)]
+
+
+def after_main(view):
+    return lambda i, j: 1 if main_marks(view, i, j) else 0
+
+
+def after_both(to, view):
+    return lambda i, j: 2 if main_marks(view, i, j) and auxiliary_completes(to, view, i, j) else after_main(view)(i, j)
+
+
+def completed_words(across, held):
+    """How many block rows and columns of a fresh picture's map are 2."""
+    whole = {(i, j) for i in range(8) for j in range(across) if held(i, j) == 2}
+    rows, columns = {i for i, _ in whole}, {j for _, j in whole}
+    assert whole == {(i, j) for i in rows for j in columns}
+    return f'2 in block rows {span(rows)}, columns {span(columns)}' if whole else '2 nowhere'
+
+
+def draw_map():
+    low, wide = Size(16, 12), Size(20, 16)
+    panels = [('Main view 16 x 12', 8, after_main(low), 'marks block rows 0 to 5'), ('then V1, 16 x 12', 8, after_both(to_v1, low), None),
+              ('V2, 20 x 16, W = 32', 16, after_both(lambda k, r, c: to_v2(k, r, c, 32), wide), None)]
+    tip = ('<defs><marker id="tip" viewBox="0 0 10 10" refX="9" refY="5" markerWidth="8" markerHeight="8" orient="auto">'
+           '<path d="M0 0L10 5L0 10z"/></marker></defs>')
+    out, said, x = [tip, *states(128)], [], LEFT
+    for name, across, held, words in panels:
+        words = words or completed_words(across, held)
+        out += [text(x, 236, name, 14, font_weight='bold'), *map_panel(x, 262, across, held), text(x, 262 + 8 * BLOCK + 22, words, 12)]
+        said.append(f'{name}: {words}.')
+        x += across * BLOCK + 92
+    low_words = ['V1: the V rows of rows 9 and 11 are luma rows 12 and 13 of the view, which it has not.',
+                 'V2: V of column 9 is luma column 16 + 4 of the view, which it has not. Colour is whole only where both U and V came.']
+    out.append(lines(LEFT, 262 + 8 * BLOCK + 50, low_words, 12))
+    title = 'The map of stale colour: one byte for each 2x2 block'
+    return picture(262 + 8 * BLOCK + 84, title, '0, 1 and 2, and the calls that lead from one to another. ' + ' '.join(said), out)
+
+
 # --- payload.svg: the bytes of an AVC444 payload of kind 0, and what the other kinds carry.
 
 BYTE = 27
@@ -763,6 +857,7 @@ def draw_products():
 # --- The files.
 
 DRAWINGS = {'v1.svg': lambda: draw_layout(V1), 'v2.svg': lambda: draw_layout(V2), 'v2_width.svg': draw_v2_width, 'widening.svg': draw_widening,
+            'map.svg': draw_map,
             'payload.svg': draw_payload, 'filter.svg': draw_filter, 'products.svg': draw_products}
 
 

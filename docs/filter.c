@@ -5,7 +5,7 @@
 
 int main(void)
 {
-    static uint8_t y[256], u[256], v[256];
+    static uint8_t y[256], u[256], v[256], map[64];
     uint8_t rgba[16] = {0};
     for (;;) {
         for (int k = 0; k < 12; k++) {
@@ -14,9 +14,9 @@ int main(void)
                 return k != 0 || !feof(stdin);
             rgba[k / 3 * 4 + k % 3] = (uint8_t)value;
         }
-        if (haythaw_from_rgba(rgba, 16, 2, 2, y, 256, u, 256, v, 256) != HAYTHAW_DONE)
+        if (haythaw_from_rgba(rgba, 16, 2, 2, y, 256, u, 256, v, 256, map, 64) != HAYTHAW_DONE)
             return 1;
-        const haythaw_pixels back = haythaw_to_rgba(2, 2, y, 256, u, 256, v, 256, 0, 0, 2, 2, rgba, 16);
+        const haythaw_pixels back = haythaw_to_rgba(2, 2, y, 256, u, 256, v, 256, map, 64, 0, 0, 2, 2, rgba, 16);
         if (back.number != HAYTHAW_DONE)
             return 1;
         printf("%zu %zu", back.filtered_u, back.filtered_v);

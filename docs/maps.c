@@ -4,8 +4,8 @@
  * even column, whether U and whether V was filtered. */
 #include "maps.h"
 
-typedef uint32_t from_rgba(const uint8_t *, size_t, uint16_t, uint16_t, uint8_t *, size_t, uint8_t *, size_t, uint8_t *, size_t);
-typedef uint32_t apply(uint16_t, uint16_t, uint8_t *, size_t, uint8_t *, size_t, uint8_t *, size_t, const uint16_t *, size_t,
+typedef uint32_t from_rgba(const uint8_t *, size_t, uint16_t, uint16_t, uint8_t *, size_t, uint8_t *, size_t, uint8_t *, size_t, uint8_t *, size_t);
+typedef uint32_t apply(uint16_t, uint16_t, uint8_t *, size_t, uint8_t *, size_t, uint8_t *, size_t, uint8_t *, size_t, const uint16_t *, size_t,
                        uint16_t, uint16_t, size_t, size_t, const uint8_t *, size_t, const uint8_t *, size_t, const uint8_t *, size_t);
 
 static int update(apply *applied, const view *from, haythaw_views views, uint16_t width, uint16_t height)
@@ -30,7 +30,7 @@ static int way(from_rgba *made, uint16_t width, uint16_t height)
 {
     if (made(rgba, sizeof rgba, width, height, PICTURE(sent)) != HAYTHAW_DONE || haythaw_new(width, height, PICTURE(shown)) != HAYTHAW_DONE)
         return 0;
-    const haythaw_views views = haythaw_split_v1(width, height, PICTURE(sent), VIEW(luma), VIEW(chroma));
+    const haythaw_views views = haythaw_split_v1(width, height, PLANES(sent), VIEW(luma), VIEW(chroma));
     const size_t plane = (size_t)views.width * views.height;
     print(sent.y, plane, 1), print(sent.u, plane, 1), print(sent.v, plane, 1);
     return views.number == HAYTHAW_DONE && printf("\n") == 1 && update(haythaw_apply_main_view, &luma, views, width, height)

@@ -4,14 +4,15 @@
 #include <stdio.h>
 
 enum { WIDE = 2048, HIGH = 512, PLANE = WIDE * HIGH, HALF = PLANE / 4 };
-typedef struct { uint8_t y[PLANE], u[PLANE], v[PLANE]; } picture;
+typedef struct { uint8_t y[PLANE], u[PLANE], v[PLANE], stale[HALF]; } picture;
 typedef struct { uint8_t y[PLANE], u[HALF], v[HALF]; } view;
 static uint8_t rgba[PLANE * 4], out[PLANE * 4];
 static picture sent, shown;
 static view luma, chroma;
 
-/* The parameters of a call: the planes of a picture or of a view, and what a view is like. */
-#define PICTURE(p) p.y, PLANE, p.u, PLANE, p.v, PLANE
+/* The parameters of a call: the planes of a picture, the same and its map of stale colour, the planes of a view, and what a view is like. */
+#define PLANES(p) p.y, PLANE, p.u, PLANE, p.v, PLANE
+#define PICTURE(p) PLANES(p), p.stale, HALF
 #define VIEW(w) w.y, PLANE, w.u, HALF, w.v, HALF
 #define SIZES(views) views.width, views.height, views.luma_stride, views.chroma_stride
 

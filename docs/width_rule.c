@@ -64,8 +64,8 @@ static int by_server(int rule, uint16_t width, uint16_t height)
     if (haythaw_from_rgba(rgba, sizeof rgba, width, height, PICTURE(sent)) != HAYTHAW_DONE)
         return 0;
     const haythaw_views views = rule == 16
-        ? haythaw_split_v2(width, height, PICTURE(sent), VIEW(luma), VIEW(chroma))
-        : haythaw_split_v2_32(width, height, PICTURE(sent), VIEW(luma), VIEW(chroma));
+        ? haythaw_split_v2(width, height, PLANES(sent), VIEW(luma), VIEW(chroma))
+        : haythaw_split_v2_32(width, height, PLANES(sent), VIEW(luma), VIEW(chroma));
     haythaw_views cropped = views;
     cropped.width = width;
     return printf("%u ", views.width) > 0 && print_view(&luma, views) && print_view(&chroma, views) && printf("\n") == 1
