@@ -4,8 +4,8 @@
     bench.py [--page] PLAIN [V3]
 
 PLAIN and V3 are files of rows, of the library made for plain x86-64 (or for this machine, where that is another one) and for x86-64-v3. A
-row has tabs between: what stands beside ours, the call, the input, our nanoseconds, the other's, the bound of the ratio. A line without tabs
-is printed as it is. --page prints what docs/SPEED.md has: the calls that users make, at 1920x1080, in Markdown.
+row has tabs between: what stands beside ours, the call, the input, our nanoseconds, the other's, the bound of the ratio; of rows of the same
+call and input the least times count. A line without tabs is printed as it is. --page prints what docs/SPEED.md has: the calls that users make, at 1920x1080, in Markdown.
 """
 import sys
 
@@ -21,7 +21,8 @@ def rows_of(path):
             said.append(line)
             continue
         beside, call, what, ours, theirs, bound = words
-        rows[beside, call, what] = float(ours), float(theirs), float(bound) if bound else None
+        least = rows.get((beside, call, what), (float('inf'), float('inf')))
+        rows[beside, call, what] = min(float(ours), least[0]), min(float(theirs), least[1]), float(bound) if bound else None
     return rows, said
 
 
@@ -93,6 +94,7 @@ def main():
     print('\n'.join(dict.fromkeys(said + more)))
     table('A call of ours and of the original', 'original', ('original',), plain, v3)
     table('The library on one input against another, or against plain copies or sums: a pixel, a byte written, or a payload', 'the second', ('ours',), plain, v3)
+    table('A call of ours and of the library from before', 'before', ('before',), plain, v3)
     table('FreeRDP: its picture to RGBA has no filter (its auxiliary combine filters), its from RGBA neither average nor filled edge', 'FreeRDP', ('FreeRDP',), plain, v3)
     table('libyuv: BT.601 of limited range, with no filter, no average and no filled edge', 'libyuv', ('libyuv',), plain, v3)
 

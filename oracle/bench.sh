@@ -2,6 +2,7 @@
 # Times the library's calls beside the Rust original's, and beside FreeRDP's and libyuv's where Debian's freerdp2-dev and libyuv-dev are
 # installed; on x86-64 once more with the library, and the original, made for x86-64-v3. The rows stay in oracle/build/rows.
 #   --only NAME   one call, beside the original and itself alone
+#   --before COMMIT [NAME]   the calls, or one of them, beside the library of an earlier commit, both in one program: what a change costs
 #   --page        the table of docs/SPEED.md, from the rows of the last whole run
 set -euo pipefail
 oracle=$(cd "$(dirname "${BASH_SOURCE[0]}")" && pwd -P)
@@ -14,13 +15,20 @@ tables() { # WORDS: of the files that there are
 }
 
 case ${1:-} in
-'' | --only | --page) ;;
+'' | --only | --before | --page) ;;
 *) sed -n '2,/^[^#]/s/^# \{0,1\}//p' "${BASH_SOURCE[0]}"; [[ $1 == --help ]]; exit ;;
 esac
 
 if [[ ${1:-} == --page ]]; then
     [[ -s $rows/plain ]] || { echo 'bench.sh: no run has left rows: oracle/bench.sh first' >&2; exit 1; }
     tables --page
+    exit
+fi
+
+if [[ ${1:-} == --before ]]; then
+    mkdir -p "$oracle/build/before"
+    "$oracle/before/before.sh" "${@:2}" >"$oracle/build/before/rows"
+    "$oracle/bench.py" "$oracle/build/before/rows"
     exit
 fi
 
