@@ -36,6 +36,14 @@ module _ (w h : ℕ) (area : Area) (seen : ℕ) (s : ℕ → ℕ → ℕ) (xs : 
       upTo-holds _ seen row c (rowPart-holds every row (area .left) (area .right) row c refl (f .2) (f .3) refl) (u .1)) in
       (omega arith, ap length next ∙ length-painted w h _ s xs, next)
 
+  -- two rows more
+  pub box-rows-two : {was ys : List ℕ} (row : ℕ) → BoxRows was row → row + 1 < area .bottom
+      → ys ≡ painted w h (upTo (rowPart every (row + 1) (area .left) (area .right)) seen) s (painted w h (upTo (rowPart every row (area .left) (area .right)) seen) s was)
+      → BoxRows ys (row + 2)
+  box-rows-two row before more both =
+      let next : row + 1 + 1 ≡ row + 2 = omega arith in
+      rw next at (box-rows-more (row + 1) (box-rows-more row before (omega arith) refl) more both)
+
   pub box-rows-all : {ys : List ℕ} (row : ℕ) → BoxRows ys row → area .bottom ≤ row → ys ≡ painted w h (upTo (inArea area) seen) s xs
   box-rows-all row done end =
       done .2 ∙ rows-all w h _ s xs row (λ r c hr hc e. omega (arith, box-facts _ _ _ _ r c (upTo-facts _ seen r c e .0)))

@@ -9,11 +9,14 @@ use lib.Dec.{ltb}
 use lib.ListN.{length, getD, take, drop}
 use lib.Seq.{getD-take, getD-drop}
 use borrow.Author.Tests.{lt-ltb, ltb-true}
-use Rattle.lent.specs.Paint.{paint, painted, every, rowPart, upTo}
+use Rattle.lent.specs.Paint.{paint, painted, every, within, rowPart, upTo}
 use Rattle.lent.specs.Samples.{sample}
 use Rattle.lent.specs.Sizes.{halfUp}
+use Rattle.lent.specs.Spread.{spreadAt}
 use Rattle.lent.proofs.Bools.{never-true, both, both-left, both-right}
+use Rattle.lent.proofs.ByPart.{part-within}
 use Rattle.lent.proofs.Cells.{row-in}
+use Rattle.lent.proofs.Paint.{length-paint}
 use Rattle.lent.proofs.Painted.{painted-none}
 use Rattle.lent.proofs.Parts.{painted-row}
 use Rattle.lent.proofs.Taken.{rowPart-facts, rowPart-holds}
@@ -59,6 +62,16 @@ module _ (w h row left right seen : ℕ) (s : ℕ → ℕ → ℕ) (xs : List �
       (λ r c held. let f = rowPart-facts every row left right r c (upTo-facts _ seen r c held .0) in (f .0, f .1, f .2)))
       is
 
+  -- each byte of the part goes to two columns of the row; the code has the row's part start at a
+  row-spread : (part : List ℕ) (a : ℕ) → a ≡ row * w + left → h * w ≤ length xs → row < h → row < seen → left ≤ right → right ≤ w
+      → ((j : ℕ) → left + j < right → getD part (j / 2) 0 ≡ s row (left + j))
+      → spreadAt a (right - left) part xs ≡ painted w h (upTo (rowPart every row left right) seen) s xs
+  row-spread part a is fits hr hs ordered inside from =
+      let end : a + (right - left) ≡ row * w + right = omega arith in
+      (λ i. paint (within (is i) (end i)) (λ k. getD part ((k - is i) / 2) 0) xs)
+      ∙ sym (part-within xs (row * w + left) (row * w + right) (λ j. getD part (j / 2) 0) (omega arith) (omega (arith, row-in w h row hr)) refl)
+      ∙ row-written w (λ j. getD part (j / 2) 0) _ refl fits hr hs ordered inside refl from
+
 -- ---- a part of a view's chroma row is read, and each byte goes to two columns
 
 pub part-halved : (plane : List ℕ) (stride r start left right j : ℕ) → start ≡ r / 2 * stride → left % 2 ≡ 0 → left + j < right
@@ -68,3 +81,20 @@ part-halved plane stride r start left right j is even lt =
     getD-take (start + halfUp right - (start + left / 2)) (drop (start + left / 2) plane) (j / 2) 0 (omega arith)
     ∙ getD-drop (start + left / 2) plane (j / 2) 0
     ∙ ap (λ (k : ℕ). getD plane k 0) (omega arith)
+
+-- two rows of the plane, of which the first is even, take the same part; the code's stride is n
+pub two-rows-halved : (w h row left right seen : ℕ) (xs plane : List ℕ) (stride start n : ℕ) {ys : List ℕ} → n ≡ w → start ≡ row / 2 * stride → row % 2 ≡ 0 → left % 2 ≡ 0
+    → h * w ≤ length xs → row + 1 < h → row + 1 < seen → left ≤ right → right ≤ w
+    → (let part = take (start + halfUp right - (start + left / 2)) (drop (start + left / 2) plane) in
+    ys ≡ spreadAt (row * n + left + n) (right - left) part (spreadAt (row * n + left) (right - left) part xs))
+    → ys ≡ painted w h (upTo (rowPart every (row + 1) left right) seen) (halved plane stride) (painted w h (upTo (rowPart every row left right) seen) (halved plane stride) xs)
+two-rows-halved w h row left right seen xs plane stride start n is at even even′ fits hr hs ordered inside back =
+    let part = take (start + halfUp right - (start + left / 2)) (drop (start + left / 2) plane) in
+    let next : row * w + left + w ≡ (row + 1) * w + left = omega arith in
+    let same : row / 2 ≡ (row + 1) / 2 = omega arith in
+    back
+    ∙ row-spread w h (row + 1) left right seen _ (spreadAt (row * n + left) (right - left) part xs) part (row * n + left + n) (ap (λ (m : ℕ). row * m + left + m) is ∙ next)
+    (simp length-paint fits) hr hs ordered inside (λ j lt. part-halved plane stride (row + 1) start left right j (at ∙ ap (λ (r : ℕ). r * stride) same) even′ lt)
+    ∙ ap (painted w h (upTo (rowPart every (row + 1) left right) seen) (halved plane stride))
+    (row-spread w h row left right seen _ xs part (row * n + left) (ap (λ (m : ℕ). row * m + left) is) fits (omega arith) (omega arith) ordered inside
+    (λ j lt. part-halved plane stride row start left right j at even′ lt))

@@ -3,7 +3,7 @@ pub mod rows; // one row of luma, one row of chroma
 
 ghost use mathlib.Core.Path.{_≡_};
 ghost use mathlib.Core.List.{[], _∷_};
-ghost use Prim.Native.Nat.{_*_, _%_};
+ghost use Prim.Native.Nat.{_*_, _%_, _≤_};
 ghost use lib.ListN.{length};
 ghost use Rattle.lent.specs.Paint.{painted, upTo};
 ghost use Rattle.lent.specs.Samples.{sample};
@@ -67,15 +67,39 @@ fn luma_rects(y: &mut [u8], size: Size, rects: &[u16], w: View, vy: &[u8])
     }
 }
 
+// The area's rows two at a time, where a row is neither so short nor so long that two at a time are slower. Answers the row that comes next.
+fn chroma_twos(plane: &mut [u8], size: Size, area: Area, from: Plane, samples: &[u8]) -> usize
+    requires { ⌜ MainRowsFit size from (length (now plane)) (length (now samples))
+        (area .bottom) (area .left) (area .right) (halfUp (area .right)) ⌝ }
+    requires { ⌜ (area .top % 2 ≡ 0) × (area .left % 2 ≡ 0) ⌝ }
+    ensures { λ next. ⌜ area .top ≤ next ⌝ }
+    ensures { λ next. ⌜ now (plane .exit) ≡ painted (strideOf size) (rowsOf size) (upTo (upTo (inArea area) (2 * from .height)) next)
+        (halved (now (samples .entry)) (from .stride)) (now (plane .entry)) ⌝ }
+{
+    let wide = area.right - area.left;
+    let mut row = area.top;
+    if wide < 16 {
+        return row;
+    }
+    if 128 <= wide {
+        return row;
+    }
+    while row + 1 < area.bottom {
+        crate::rows::chroma_two(plane, size, row, area.left, area.right, from, samples);
+        row += 2;
+    }
+    row
+}
+
 // The rows and columns of the area.
 fn chroma_rows(plane: &mut [u8], size: Size, area: Area, from: Plane, samples: &[u8])
     requires { ⌜ MainRowsFit size from (length (now plane)) (length (now samples))
         (area .bottom) (area .left) (area .right) (halfUp (area .right)) ⌝ }
-    requires { ⌜ area .left % 2 ≡ 0 ⌝ }
+    requires { ⌜ (area .top % 2 ≡ 0) × (area .left % 2 ≡ 0) ⌝ }
     ensures { λ _. ⌜ now (plane .exit) ≡ painted (strideOf size) (rowsOf size) (upTo (inArea area) (2 * from .height))
         (halved (now (samples .entry)) (from .stride)) (now (plane .entry)) ⌝ }
 {
-    let mut row = area.top;
+    let mut row = chroma_twos(plane, size, area, from, samples);
     while row < area.bottom {
         crate::rows::chroma_row(plane, size, row, area.left, area.right, from, samples);
         row += 1;

@@ -1,6 +1,6 @@
 // One row of the main view goes into a picture's plane: luma as it stands, chroma each sample at two columns.
 ghost use mathlib.Core.Path.{_≡_};
-ghost use Prim.Native.Nat.{_+_, _*_, _%_};
+ghost use Prim.Native.Nat.{_+_, _*_, _%_, _≤_};
 ghost use lib.ListN.{length};
 ghost use Rattle.lent.specs.Paint.{painted, every, rowPart, upTo};
 ghost use Rattle.lent.specs.Samples.{sample};
@@ -60,4 +60,38 @@ pub fn chroma_row(
     let first = start + left / 2;
     let end = start + (right + 1) / 2;
     lent::spread(&mut plane[line + left..line + right], &samples[first..end]);
+}
+
+// Rows `row`, which is even, and row + 1 of U or V take the same columns of the view's row row/2, as by `chroma_row` twice.
+pub fn chroma_two(
+    plane: &mut [u8],
+    size: Size,
+    row: usize,
+    left: usize,
+    right: usize,
+    from: Plane,
+    samples: &[u8],
+)
+    requires { ⌜ MainRowsFit size from (length (now plane)) (length (now samples)) (row + 2) left right (halfUp right) ⌝ }
+    requires { ⌜ (row % 2 ≡ 0) × (left % 2 ≡ 0) × (left + 16 ≤ right) ⌝ }
+    ensures { λ _. ⌜ now (plane .exit) ≡ painted (strideOf size) (rowsOf size)
+        (upTo (rowPart every (row + 1) left right) (2 * from .height)) (halved (now (samples .entry)) (from .stride))
+        (painted (strideOf size) (rowsOf size)
+        (upTo (rowPart every row left right) (2 * from .height)) (halved (now (samples .entry)) (from .stride)) (now (plane .entry))) ⌝ }
+{
+    let found = view::row_start(samples.len(), from.stride, from.height, row / 2);
+    let RowStart::At(start) = found else {
+        return;
+    };
+    let stride = picture::stride(size);
+    let line = row * stride + left;
+    let first = start + left / 2;
+    let end = start + (right + 1) / 2;
+    lent::twice::spread(
+        plane,
+        line,
+        line + stride,
+        right - left,
+        &samples[first..end],
+    );
 }

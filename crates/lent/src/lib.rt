@@ -5,6 +5,7 @@
 // up, and buffers are found too short, for every size, stride and length, with no sum or product that wraps.
 pub mod words; // neighbouring bytes as one number
 pub mod long; // copies of many bytes
+pub mod twice; // two rows that are written alike
 
 ghost use mathlib.Core.Path.{_≡_};
 ghost use Prim.Native.Nat.{_+_, _*_, _/_, _≤_, _<_, min};

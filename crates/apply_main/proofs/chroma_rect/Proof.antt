@@ -55,7 +55,7 @@ chroma-rows-requires : tie.Need-chroma-rows-requires
 chroma-rows-requires c κs =
     let l = c .before .before .before .before in
     let s = start l in
-    (rows-ask (s .args .size) (c .chroma .ensures) (s .pre) (omega (arith, below l)) (omega arith) (omega (arith, end l)) (omega (arith, end l)), omega (arith, ap (λ (x : Area). x .left) (found l)))
+    (rows-ask (s .args .size) (c .chroma .ensures) (s .pre) (omega (arith, below l)) (omega arith) (omega (arith, end l)) (omega (arith, end l)), (omega (arith, ap (λ (x : Area). x .top) (found l)), omega (arith, ap (λ (x : Area). x .left) (found l))))
 
 same-length : tie.Need-same-length
 same-length c = c .before .before .chroma-rows .kept .0
