@@ -92,12 +92,10 @@ fn v1_even_row(
         return;
     }
     let line = row * picture::stride(size);
-    columns::put_odds(
+    columns::both::put_odds(
         &mut u[line + left..line + stop],
-        &vu[at + left / 2..at + stop / 2],
-    );
-    columns::put_odds(
         &mut v[line + left..line + stop],
+        &vu[at + left / 2..at + stop / 2],
         &vv[at + left / 2..at + stop / 2],
     );
 }

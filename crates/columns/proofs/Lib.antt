@@ -3,3 +3,4 @@
 pub mod Sources
 pub mod Columns
 pub mod Turns
+pub mod NewOdds

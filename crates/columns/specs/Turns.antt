@@ -2,6 +2,7 @@
 --
 --   odd, even                   of a column
 --   woven evens odds k          byte k of a row that has `evens` at its even places and `odds` at its odd ones
+--   newOdds from row k          byte k of `row`, once `from` is at its odd places
 use Prim.Native.Nat.{ℕ, _/_, _%_}
 use mathlib.Core.Bool.{Bool, cond}
 use mathlib.Core.List.{List}
@@ -16,3 +17,6 @@ even k = eqb (k % 2) 0
 
 unfoldable pub woven : List ℕ → List ℕ → ℕ → ℕ
 woven evens odds k = cond (odd k) (getD odds (k / 2) 0) (getD evens (k / 2) 0)
+
+unfoldable pub newOdds : List ℕ → List ℕ → ℕ → ℕ
+newOdds from row k = cond (odd k) (getD from (k / 2) 0) (getD row k 0)

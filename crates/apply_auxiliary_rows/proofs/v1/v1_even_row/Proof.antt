@@ -1,7 +1,7 @@
 -- `apply_auxiliary_rows::v1::v1_even_row` meets its contract: where the view has the chroma row, the odd columns below twice its width come from it,
 -- U's from the view's U and V's from its V. Assumes nothing.
 use borrow.Author.Needs.{needs}
-use Prim.Native.Nat.{ℕ, _+_, _*_, _/_, _<_, _≤_, min}
+use Prim.Native.Nat.{ℕ, _+_, _*_, _/_, _%_, _<_, _≤_, min}
 use native.Mathlib.Omega.{arith}
 use mathlib.Core.Path.{_≡_, refl, ap, _∙_}
 use mathlib.Core.Bool.{true}
@@ -15,7 +15,7 @@ use Rattle.layout.specs.declared.Layout.the-variants.{V1}
 use Rattle.layout.specs.Exists.{fed}
 use Rattle.layout.proofs.Pairs.{v1-even-facts}
 use Rattle.apply_auxiliary_rows.proofs.Columns.{columns-none}
-use Rattle.apply_auxiliary_rows.proofs.Area.{area-room, odds-fit}
+use Rattle.apply_auxiliary_rows.proofs.Area.{area-room, copy-fits, odds-fit}
 use Rattle.apply_auxiliary_rows.proofs.Written.{v1-even-written}
 use Rattle.apply_auxiliary_rows.proofs.v1.v1_even_row.Statement.{statement}
 use Rattle.apply_auxiliary_rows.proofs.v1.v1_even_row.Tie as tie
@@ -137,69 +137,62 @@ part-put-odds-end : tie.Need-part-put-odds-end
 part-put-odds-end c = omega (arith, in-planes c)
 
 add-put-odds-3 : tie.Need-add-put-odds-3
-add-put-odds-3 c = omega (arith, in-view (c .before .before .before), in-planes (c .before))
+add-put-odds-3 c = omega (arith, in-planes (c .before))
 
 add-put-odds-4 : tie.Need-add-put-odds-4
-add-put-odds-4 c = omega (arith, in-view (c .before .before .before), in-planes (c .before))
+add-put-odds-4 c = omega (arith, in-planes (c .before))
 
 sub-put-odds-2 : tie.Need-sub-put-odds-2
-sub-put-odds-2 c = omega (arith, in-view (c .before .before .before), in-planes (c .before))
+sub-put-odds-2 c = omega (arith, in-planes (c .before))
 
 part-put-odds-start-2 : tie.Need-part-put-odds-start-2
-part-put-odds-start-2 c = omega (arith, in-view (c .before .before .before), in-planes (c .before))
+part-put-odds-start-2 c = omega (arith, in-planes (c .before))
 
 part-put-odds-end-2 : tie.Need-part-put-odds-end-2
-part-put-odds-end-2 c = omega (arith, in-view (c .before .before .before), in-planes (c .before))
+part-put-odds-end-2 c = omega (arith, in-planes (c .before))
+
+add-put-odds-5 : tie.Need-add-put-odds-5
+add-put-odds-5 c = let n = c .before .before in omega (arith, in-view (n .before .before), in-planes n)
+
+add-put-odds-6 : tie.Need-add-put-odds-6
+add-put-odds-6 c = let n = c .before .before in omega (arith, in-view (n .before .before), in-planes n)
+
+sub-put-odds-3 : tie.Need-sub-put-odds-3
+sub-put-odds-3 c = let n = c .before .before in omega (arith, in-view (n .before .before), in-planes n)
+
+part-put-odds-start-3 : tie.Need-part-put-odds-start-3
+part-put-odds-start-3 c = let n = c .before .before in omega (arith, in-view (n .before .before), in-planes n)
+
+part-put-odds-end-3 : tie.Need-part-put-odds-end-3
+part-put-odds-end-3 c = let n = c .before .before in omega (arith, in-view (n .before .before), in-planes n)
+
+add-put-odds-7 : tie.Need-add-put-odds-7
+add-put-odds-7 c = let n = c .before .before .before in omega (arith, in-view (n .before .before), in-planes n)
+
+add-put-odds-8 : tie.Need-add-put-odds-8
+add-put-odds-8 c = let n = c .before .before .before in omega (arith, in-view (n .before .before), in-planes n)
+
+sub-put-odds-4 : tie.Need-sub-put-odds-4
+sub-put-odds-4 c = let n = c .before .before .before in omega (arith, in-view (n .before .before), in-planes n)
+
+part-put-odds-start-4 : tie.Need-part-put-odds-start-4
+part-put-odds-start-4 c = let n = c .before .before .before in omega (arith, in-view (n .before .before), in-planes n)
+
+part-put-odds-end-4 : tie.Need-part-put-odds-end-4
+part-put-odds-end-4 c = let n = c .before .before .before in omega (arith, in-view (n .before .before), in-planes n)
 
 put-odds-requires : tie.Need-put-odds-requires
 put-odds-requires c κs =
-    let n = c .before .before in
+    let n = c .before .before .before .before in
     let l = n .before .before in
-    let f = l .before .before in
-    let p = entry f .pre .0 in
-    odds-fit _ _ _ _ (in-planes n .1) (p .even-left) (omega (arith, p .even-right, stops l)) (in-planes n .0) _ _ (omega (arith, in-view l))
-
--- the second call comes after the first
-abbrev stride-of : tie.After-slice-known3 → tie.After-stride
-stride-of m = m .before .before .before .before .before
-
-add-put-odds-5 : tie.Need-add-put-odds-5
-add-put-odds-5 c = omega (arith, in-planes (stride-of c))
-
-add-put-odds-6 : tie.Need-add-put-odds-6
-add-put-odds-6 c = omega (arith, in-planes (stride-of c))
-
-sub-put-odds-3 : tie.Need-sub-put-odds-3
-sub-put-odds-3 c = omega (arith, in-planes (stride-of c))
-
-part-put-odds-start-3 : tie.Need-part-put-odds-start-3
-part-put-odds-start-3 c = omega (arith, in-planes (stride-of c))
-
-part-put-odds-end-3 : tie.Need-part-put-odds-end-3
-part-put-odds-end-3 c = omega (arith, in-planes (stride-of c))
-
-add-put-odds-7 : tie.Need-add-put-odds-7
-add-put-odds-7 c = let n = stride-of (c .before) in omega (arith, in-view (n .before .before), in-planes n)
-
-add-put-odds-8 : tie.Need-add-put-odds-8
-add-put-odds-8 c = let n = stride-of (c .before) in omega (arith, in-view (n .before .before), in-planes n)
-
-sub-put-odds-4 : tie.Need-sub-put-odds-4
-sub-put-odds-4 c = let n = stride-of (c .before) in omega (arith, in-view (n .before .before), in-planes n)
-
-part-put-odds-start-4 : tie.Need-part-put-odds-start-4
-part-put-odds-start-4 c = let n = stride-of (c .before) in omega (arith, in-view (n .before .before), in-planes n)
-
-part-put-odds-end-4 : tie.Need-part-put-odds-end-4
-part-put-odds-end-4 c = let n = stride-of (c .before) in omega (arith, in-view (n .before .before), in-planes n)
-
-put-odds-requires-2 : tie.Need-put-odds-requires-2
-put-odds-requires-2 c κs =
-    let n = stride-of (c .before .before) in
-    let l = n .before .before in
-    let f = l .before .before in
-    let p = entry f .pre .0 in
-    odds-fit _ _ _ _ (in-planes n .2) (p .even-left) (omega (arith, p .even-right, stops l)) (in-planes n .0) _ _ (omega (arith, in-view l))
+    let p = entry (l .before .before) .pre .0 in
+    let even : l .least .result % 2 ≡ 0 = omega (arith, p .even-right, stops l) in (
+      copy-fits _ _ _ _ _ _ (in-planes n .1) (in-planes n .2) (in-planes n .0),
+      (
+        odds-fit _ _ _ _ (in-planes n .1) (p .even-left) even (in-planes n .0) _ _ (omega (arith, in-view l)),
+        odds-fit _ _ _ _ (in-planes n .2) (p .even-left) even (in-planes n .0) _ _ (omega (arith, in-view l)),
+      ),
+    )
 
 same-length : tie.Need-same-length
 same-length c = search needs
@@ -209,19 +202,17 @@ same-length-2 c = search needs
 
 returns-3 : tie.Need-returns-3
 returns-3 c =
-    let cv = c .before .before in
-    let m = cv .before .before .before in
-    let cu = m .before .before in
-    let n = stride-of m in
+    let put = c .before .before .before .before in
+    let n = put .before .before .before .before .before in
     let l = n .before .before in
     let f = l .before .before in
     let s = entry f in
     let a = s .args in
     let p = s .pre in (
-      λ vy. v1-even-written CU (a .size) (a .w) vy (now (a .vu)) (now (a .vv)) (now (a .u)) (cu .put-odds .last .0) (a .row) (a .left) (a .right) (l .least .result) (n .stride .result) (f .at .given .0 .0) (p .0) (n .stride .ensures .0) (in-planes n .0)
-          (now (a .vu)) (λ r k. refl) (p .1 .1 .1 .1) (there f .0) (there f .1) (stops l) (cu .put-odds .ensures),
-      λ vy. v1-even-written CV (a .size) (a .w) vy (now (a .vu)) (now (a .vv)) (now (a .v)) (cv .put-odds2 .last .0) (a .row) (a .left) (a .right) (l .least .result) (n .stride .result) (f .at .given .0 .0) (p .1 .0) (n .stride .ensures .0) (in-planes n .0)
-          (now (a .vv)) (λ r k. refl) (p .1 .1 .1 .1) (there f .0) (there f .1) (stops l) (cv .put-odds2 .ensures),
+      λ vy. v1-even-written CU (a .size) (a .w) vy (now (a .vu)) (now (a .vv)) (now (a .u)) (put .put-odds .last .0) (a .row) (a .left) (a .right) (l .least .result) (n .stride .result) (f .at .given .0 .0) (p .0) (n .stride .ensures .0) (in-planes n .0)
+          (now (a .vu)) (λ r k. refl) (p .1 .1 .1 .1) (there f .0) (there f .1) (stops l) (put .put-odds .ensures .0),
+      λ vy. v1-even-written CV (a .size) (a .w) vy (now (a .vu)) (now (a .vv)) (now (a .v)) (put .put-odds .last .1 .0) (a .row) (a .left) (a .right) (l .least .result) (n .stride .result) (f .at .given .0 .0) (p .1 .0) (n .stride .ensures .0) (in-planes n .0)
+          (now (a .vv)) (λ r k. refl) (p .1 .1 .1 .1) (there f .0) (there f .1) (stops l) (put .put-odds .ensures .1),
     )
 
 pub v1-even-row-spec : {M : Type 1} → statement M
@@ -249,7 +240,6 @@ v1-even-row-spec =
     sub-put-odds-2
     part-put-odds-start-2
     part-put-odds-end-2
-    put-odds-requires
     add-put-odds-5
     add-put-odds-6
     sub-put-odds-3
@@ -260,7 +250,7 @@ v1-even-row-spec =
     sub-put-odds-4
     part-put-odds-start-4
     part-put-odds-end-4
-    put-odds-requires-2
+    put-odds-requires
     same-length
     same-length-2
     returns-3)
