@@ -94,7 +94,7 @@ fn put_many(u: &mut [u8], v: &mut [u8], us: &[u8], vs: &[u8], none: u16, most: u
     lent::copy_front(&mut v[last..last + 16], &last_v, 16);
 }
 
-// The odd places of u and v become the bytes of us and vs, as by `put_odds` of each, which short rows and whole rows of a frame go by.
+// The odd places of u and v become the bytes of us and vs, as by `put_odds` of each, which shorter and longer rows go by.
 pub fn put_odds(u: &mut [u8], v: &mut [u8], us: &[u8], vs: &[u8])
     requires { ⌜ length (now u) ≡ length (now v) ⌝ }
     requires { ⌜ OddsFit (length (now u)) (length (now us)) × OddsFit (length (now v)) (length (now vs)) ⌝ }
@@ -103,7 +103,7 @@ pub fn put_odds(u: &mut [u8], v: &mut [u8], us: &[u8], vs: &[u8])
 {
     let n = u.len() / 2;
     if 8 <= n {
-        if n < 512 {
+        if n < 64 {
             let none = crate::missing(n, us.len());
             put_many(u, v, us, vs, none, n - 8);
             return;
