@@ -23,7 +23,7 @@ struct row {
     int list, calls; /* so many calls in a run */
 };
 
-enum { WHOLE, ODD, SMALL, ONE, ONE_ODD };
+enum { WHOLE, ODD, SMALL, ONE, ONE_ODD, SIDE_2, SIDE_8, SIDE_24, SIDE_256 };
 
 static struct list lists[] = {
     [WHOLE] = {"the whole frame", 4, {0, 0, WIDTH, HEIGHT}},
@@ -31,6 +31,10 @@ static struct list lists[] = {
     [SMALL] = {"100 rectangles of 16x16", 4 * 100, {0}},
     [ONE] = {"a rectangle of 16x16", 4, {960, 544, 976, 560}},
     [ONE_ODD] = {"a rectangle of 16x16 at odd edges", 4, {961, 545, 977, 561}},
+    [SIDE_2] = {"64 rectangles of 2x2 at any edges", 4 * 64, {0}},
+    [SIDE_8] = {"64 rectangles of 8x8 at any edges", 4 * 64, {0}},
+    [SIDE_24] = {"64 rectangles of 24x24 at any edges", 4 * 64, {0}},
+    [SIDE_256] = {"64 rectangles of 256x256 at any edges", 4 * 64, {0}},
 };
 
 static const struct row rows[] = {
@@ -43,19 +47,44 @@ static const struct row rows[] = {
     {MAIN, "apply_main_view", WHOLE, 4},
     {MAIN, "apply_main_view", ODD, 8},
     {MAIN, "apply_main_view", SMALL, 40},
+    {MAIN, "apply_main_view", SIDE_2, 100},
+    {MAIN, "apply_main_view", SIDE_8, 100},
+    {MAIN, "apply_main_view", SIDE_24, 40},
+    {MAIN, "apply_main_view", SIDE_256, 2},
     {V1, "apply_auxiliary_v1", WHOLE, 4},
     {V1, "apply_auxiliary_v1", ODD, 8},
     {V1, "apply_auxiliary_v1", SMALL, 40},
+    {V1, "apply_auxiliary_v1", SIDE_2, 100},
+    {V1, "apply_auxiliary_v1", SIDE_8, 100},
+    {V1, "apply_auxiliary_v1", SIDE_24, 40},
+    {V1, "apply_auxiliary_v1", SIDE_256, 2},
     {V2, "apply_auxiliary_v2", WHOLE, 4},
     {V2, "apply_auxiliary_v2", ODD, 8},
     {V2, "apply_auxiliary_v2", SMALL, 40},
+    {V2, "apply_auxiliary_v2", SIDE_2, 100},
+    {V2, "apply_auxiliary_v2", SIDE_8, 100},
+    {V2, "apply_auxiliary_v2", SIDE_24, 40},
+    {V2, "apply_auxiliary_v2", SIDE_256, 2},
     {SPLIT_V1, "split_v1", WHOLE, 1},
     {SPLIT_V2, "split_v2", WHOLE, 1},
 };
 
-/* The lists of the bench beside the original (runs/src/suites/apply/bench.rs). */
+/* Squares of some side whose edges are odd and even by turns, all over the picture. */
+static void make_squares(struct list *list, uint16_t side)
+{
+    for (uint32_t i = 0; i < list->count / 4; i++) {
+        const uint16_t left = (uint16_t)(i * 67 % (WIDTH - side)), top = (uint16_t)(i * 31 % (HEIGHT - side));
+        memcpy(list->rects + 4 * i, (const uint16_t[]){left, top, left + side, top + side}, 8);
+    }
+}
+
+/* The first two are the lists of the bench beside the original (runs/src/suites/apply/bench.rs). */
 static void make_lists(void)
 {
+    make_squares(&lists[SIDE_2], 2);
+    make_squares(&lists[SIDE_8], 8);
+    make_squares(&lists[SIDE_24], 24);
+    make_squares(&lists[SIDE_256], 256);
     for (uint16_t i = 0; i < 500; i++) {
         const uint16_t left = (i * 67 % 1850) | 1, top = (i * 31 % 1060) | 1;
         memcpy(lists[ODD].rects + 4 * i, (const uint16_t[]){left, top, left + 62 + i % 4, top + 14 + i / 4 % 4}, 8);
