@@ -9,6 +9,7 @@ pub mod Parts
 pub mod Copies
 pub mod Rows
 pub mod ByPart
+pub mod ByEnds
 pub mod SpreadAt
 pub mod ManyRows
 pub mod PartRows

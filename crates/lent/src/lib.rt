@@ -46,16 +46,83 @@ fn copy_16(dst: &mut [u8], src: &[u8])
     copy_front(dst, &t, 16);
 }
 
-// dst becomes src, a few bytes. Not by `copy_front`: then the compiler writes `copy` out at each of its calls, and long rows are slower.
-fn copy_short(dst: &mut [u8], src: &[u8])
+// dst becomes src, 2 or 3 bytes: the first two and the last, whatever the two have in common. Both are read before one is written, so that each is
+// one load and one store. The size is written out here and in its two likes below: where it is handed over, the compiler makes more of the copies.
+fn copy_by_2(dst: &mut [u8], src: &[u8])
     requires { ⌜ length (now dst) ≡ length (now src) ⌝ }
+    requires { ⌜ (2 ≤ length (now src)) × (length (now src) ≤ 4) ⌝ }
     ensures { λ _. ⌜ now (dst .exit) ≡ now (src .entry) ⌝ }
 {
-    let mut k = 0;
-    while k < src.len() {
-        dst[k] = src[k];
-        k += 1;
+    let n = src.len();
+    let mut first = [0u8; 2];
+    let mut last = [0u8; 2];
+    copy_front(&mut first, src, 2);
+    copy_front(&mut last, &src[n - 2..n], 2);
+    copy_front(dst, &first, 2);
+    copy_front(&mut dst[n - 2..n], &last, 2);
+}
+
+// The same of 4 to 8 bytes.
+fn copy_by_4(dst: &mut [u8], src: &[u8])
+    requires { ⌜ length (now dst) ≡ length (now src) ⌝ }
+    requires { ⌜ (4 ≤ length (now src)) × (length (now src) ≤ 8) ⌝ }
+    ensures { λ _. ⌜ now (dst .exit) ≡ now (src .entry) ⌝ }
+{
+    let n = src.len();
+    let mut first = [0u8; 4];
+    let mut last = [0u8; 4];
+    copy_front(&mut first, src, 4);
+    copy_front(&mut last, &src[n - 4..n], 4);
+    copy_front(dst, &first, 4);
+    copy_front(&mut dst[n - 4..n], &last, 4);
+}
+
+// The same of 8 to 16 bytes.
+fn copy_by_8(dst: &mut [u8], src: &[u8])
+    requires { ⌜ length (now dst) ≡ length (now src) ⌝ }
+    requires { ⌜ (8 ≤ length (now src)) × (length (now src) ≤ 16) ⌝ }
+    ensures { λ _. ⌜ now (dst .exit) ≡ now (src .entry) ⌝ }
+{
+    let n = src.len();
+    let mut first = [0u8; 8];
+    let mut last = [0u8; 8];
+    copy_front(&mut first, src, 8);
+    copy_front(&mut last, &src[n - 8..n], 8);
+    copy_front(dst, &first, 8);
+    copy_front(&mut dst[n - 8..n], &last, 8);
+}
+
+// dst becomes src, at most one byte.
+fn copy_one(dst: &mut [u8], src: &[u8])
+    requires { ⌜ length (now dst) ≡ length (now src) ⌝ }
+    requires { ⌜ length (now src) ≤ 1 ⌝ }
+    ensures { λ _. ⌜ now (dst .exit) ≡ now (src .entry) ⌝ }
+{
+    if src.len() == 1 {
+        dst[0] = src[0];
     }
+}
+
+// dst becomes src, at most 16 bytes, without a loop.
+fn copy_short(dst: &mut [u8], src: &[u8])
+    requires { ⌜ length (now dst) ≡ length (now src) ⌝ }
+    requires { ⌜ length (now src) ≤ 16 ⌝ }
+    ensures { λ _. ⌜ now (dst .exit) ≡ now (src .entry) ⌝ }
+{
+    let n = src.len();
+    if n < 4 {
+        if n < 2 {
+            copy_one(dst, src);
+            return;
+        }
+        copy_by_2(dst, src);
+        return;
+    }
+    if n < 8 {
+        copy_by_4(dst, src);
+        return;
+    }
+    copy_by_8(dst, src);
 }
 
 // dst becomes src. 16 bytes a turn; the last turn ends at the end, whatever it has in common with the one before: no byte is left for a
@@ -76,6 +143,21 @@ pub fn copy(dst: &mut [u8], src: &[u8])
         i += 16;
     }
     copy_16(&mut dst[last..n], &src[last..n]);
+}
+
+// u becomes us and v becomes vs, which are as long. Of short rows the length is looked at once.
+pub fn copy_both(u: &mut [u8], v: &mut [u8], us: &[u8], vs: &[u8])
+    requires { ⌜ (length (now u) ≡ length (now us)) × (length (now v) ≡ length (now vs)) × (length (now u) ≡ length (now v)) ⌝ }
+    ensures u { λ _. ⌜ now (u .exit) ≡ now (us .entry) ⌝ }
+    ensures v { λ _. ⌜ now (v .exit) ≡ now (vs .entry) ⌝ }
+{
+    if 16 <= u.len() {
+        copy(u, us);
+        copy(v, vs);
+        return;
+    }
+    copy_short(u, us);
+    copy_short(v, vs);
 }
 
 // The first `count` pairs of dst become as many bytes of `from`, each at two places. One word a pair, since an index i / 2 keeps the compiler

@@ -16,12 +16,27 @@ fn put_16(dst: &mut [u8], a: usize, b: usize, from: &[u8])
     crate::copy_front(&mut dst[b..b + 16], &both, 16);
 }
 
+// The n pairs from a on, then those from b on, at most 32 places of each: two turns, and no loop.
+fn few_pairs(dst: &mut [u8], a: usize, b: usize, from: &[u8], n: usize)
+    requires { ⌜ (8 ≤ n) × (n ≤ 16) × (a + 2 * n ≤ b) × (b + 2 * n ≤ length (now dst)) ⌝ }
+    requires { ⌜ n ≤ length (now from) ⌝ }
+    ensures { λ _. ⌜ now (dst .exit) ≡ spreadAt b (2 * n) (now (from .entry)) (spreadAt a (2 * n) (now (from .entry)) (now (dst .entry))) ⌝ }
+{
+    let rest = n - 8;
+    put_16(dst, a, b, &from[0..8]);
+    put_16(dst, a + 2 * rest, b + 2 * rest, &from[rest..n]);
+}
+
 // The n pairs from a on, then those from b on. 16 places of each a turn; the last turn ends at the end, as in `many_pairs`.
 fn pairs(dst: &mut [u8], a: usize, b: usize, from: &[u8], n: usize)
     requires { ⌜ (8 ≤ n) × (a + 2 * n ≤ b) × (b + 2 * n ≤ length (now dst)) ⌝ }
     requires { ⌜ n ≤ length (now from) ⌝ }
     ensures { λ _. ⌜ now (dst .exit) ≡ spreadAt b (2 * n) (now (from .entry)) (spreadAt a (2 * n) (now (from .entry)) (now (dst .entry))) ⌝ }
 {
+    if n <= 16 {
+        few_pairs(dst, a, b, from, n);
+        return;
+    }
     let most = n - 8;
     let mut i = 0;
     while i < most {

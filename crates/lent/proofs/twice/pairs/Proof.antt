@@ -1,4 +1,4 @@
--- `lent::twice::pairs` meets its contract. The invariant: the first 2 i bytes of both rows are written. A turn writes the next 16 of each, and the
+-- `lent::twice::pairs` meets its contract. A few pairs go by `few_pairs`. The invariant: the first 2 i bytes of both rows are written. A turn writes the next 16 of each, and the
 -- last turn, which may start before the loop's end, those up to the end.
 -- Assumes nothing.
 use borrow.Author.Needs.{needs}
@@ -14,11 +14,20 @@ Inv-loop dst₀ a b from n most i₀ dst i = (i ≤ n) × Both from dst₀ a b d
 abbrev μ-loop : tie.MeasureT-loop
 μ-loop dst₀ a b from n most i₀ dst i = most - i
 
+few-pairs-requires : tie.Need-few-pairs-requires Inv-loop μ-loop
+few-pairs-requires c κs = search needs
+
+same-length : tie.Need-same-length Inv-loop μ-loop
+same-length c = omega arith
+
+returns : tie.Need-returns Inv-loop μ-loop
+returns c = c .before .before .few-pairs .ensures
+
 sub-most : tie.Need-sub-most Inv-loop μ-loop
 sub-most c = omega arith
 
 loop-holds : tie.Need-loop-holds Inv-loop μ-loop
-loop-holds c = let a = c .before .before .args in (omega arith, both-none (a .from .now) (a .dst .now) (a .a) (a .b))
+loop-holds c = let a = c .before .before .before .args in (omega arith, both-none (a .from .now) (a .dst .now) (a .a) (a .b))
 
 mul-put-16 : tie.Need-mul-put-16 Inv-loop μ-loop
 mul-put-16 c = omega arith
@@ -57,7 +66,7 @@ loop-again : tie.Need-loop-again Inv-loop μ-loop
 loop-again c =
     let call = c .before .before in
     let l = call .before .before .before .before in
-    let a = l .before .before .before .args in
+    let a = l .before .before .before .before .args in
     let i : ℕ = l .loop .i in
     (omega arith, both-more (a .from .now) (a .dst .now) (a .a) (a .b) (2 * i) i 16 (i + 8 - i) (2 * (i + 8)) (omega arith) (omega arith) (omega arith) (omega arith) (omega arith) (l .loop .inv .1) (call .put-16 .ensures))
 
@@ -85,14 +94,14 @@ part-put-16-end-2 c = omega arith
 put-16-requires-2 : tie.Need-put-16-requires-2 Inv-loop μ-loop
 put-16-requires-2 c κs = search needs
 
-same-length : tie.Need-same-length Inv-loop μ-loop
-same-length c = omega arith
+same-length-2 : tie.Need-same-length-2 Inv-loop μ-loop
+same-length-2 c = omega arith
 
-returns : tie.Need-returns Inv-loop μ-loop
-returns c =
+returns-2 : tie.Need-returns-2 Inv-loop μ-loop
+returns-2 c =
     let call = c .before .before in
     let l = call .before .before .before .before in
-    let a = l .before .before .before .args in
+    let a = l .before .before .before .before .args in
     let n : ℕ = a .n in
     both-more (a .from .now) (a .dst .now) (a .a) (a .b) (2 * l .loop .i) (n - 8) 16 (n - (n - 8)) (2 * n) (omega arith) (omega arith) (omega arith) (omega arith) (omega arith) (l .loop .inv .1) (call .put-162 .ensures) .1
 
@@ -102,6 +111,9 @@ pairs-spec =
     (tie.spec
     Inv-loop
     μ-loop
+    few-pairs-requires
+    same-length
+    returns
     sub-most
     loop-holds
     mul-put-16
@@ -124,5 +136,5 @@ pairs-spec =
     part-put-16-start-2
     part-put-16-end-2
     put-16-requires-2
-    same-length
-    returns)
+    same-length-2
+    returns-2)
