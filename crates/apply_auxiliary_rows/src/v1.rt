@@ -50,12 +50,10 @@ fn v1_odd_row(
         return;
     }
     let line = row * picture::stride(size);
-    lent::copy(
+    lent::copy_both(
         &mut u[line + left..line + stop],
-        &vy[first + left..first + stop],
-    );
-    lent::copy(
         &mut v[line + left..line + stop],
+        &vy[first + left..first + stop],
         &vy[second + left..second + stop],
     );
 }

@@ -87,13 +87,12 @@ turn-falls most pos same lt is = omega arith
 pub below-every : (s : ℕ → ℕ) (xs : List ℕ) {ys : List ℕ} (n : ℕ) → ys ≡ paint (λ k. ltb k n) s xs → Below every s xs ys n
 below-every s xs n is = (ap length is ∙ length-paint _ s xs, is ∙ paint-ext _ _ s s xs (λ k h. sym (and-true (ltb k n))) (λ k h e. refl))
 
--- a word of two places: the even one is stored as it was, the odd one is painted
-pub odds-next : (s : ℕ → ℕ) (xs : List ℕ) {was ys : List ℕ} {a b : ℕ} (i : ℕ) → Below odd s xs was (2 * i) → 2 * i + 1 < length xs
-    → ys ≡ set (set was (2 * i) a) (2 * i + 1) b → a ≡ getD was (2 * i) 0 → b ≡ s (2 * i + 1)
-    → Below odd s xs ys (2 * (i + 1))
-odds-next s xs {was} {ys} {a} {b} i before room is kept new = (
-  ap length is ∙ simp length-set (before .0),
-  is ∙ rw (kept, set-getD, before .1)
+-- one store: the next odd place is painted
+pub odd-next : (s : ℕ → ℕ) (xs : List ℕ) {was : List ℕ} {b : ℕ} (i : ℕ) → Below odd s xs was (2 * i) → 2 * i + 1 < length xs → b ≡ s (2 * i + 1)
+    → Below odd s xs (set was (2 * i + 1) b) (2 * (i + 1))
+odd-next s xs {was} {b} i before room new = (
+  simp length-set (before .0),
+  rw (before .1)
       (paint-set _ _ s xs (2 * i + 1) b room new (both _ _ (lt-ltb (2 * i + 1) (2 * (i + 1)) (omega arith)) (is-odd (2 * i + 1) (omega arith)))
       (λ k ne. same-test (ltb k (2 * i) && odd k) (ltb k (2 * (i + 1)) && odd k)
       (λ p. both _ _ (lt-ltb k (2 * (i + 1)) (omega (arith, ltb-true k (2 * i) (both-left _ _ p)))) (both-right (ltb k (2 * i)) _ p))
@@ -103,3 +102,11 @@ odds-next s xs {was} {ys} {a} {b} i before room is kept new = (
   where
     before-it : (k : ℕ) → (k ≡ 2 * i + 1 → ⊥) → k < 2 * (i + 1) → k % 2 ≡ 1 → k < 2 * i
     before-it k ne lt o = ⊎-elim (λ l. l) (λ g. absurd (ne (omega arith))) (split k (2 * i))
+
+-- a word of two places: the even one is stored as it was, the odd one is painted
+pub odds-next : (s : ℕ → ℕ) (xs : List ℕ) {was ys : List ℕ} {a b : ℕ} (i : ℕ) → Below odd s xs was (2 * i) → 2 * i + 1 < length xs
+    → ys ≡ set (set was (2 * i) a) (2 * i + 1) b → a ≡ getD was (2 * i) 0 → b ≡ s (2 * i + 1)
+    → Below odd s xs ys (2 * (i + 1))
+odds-next s xs {was} {ys} {a} {b} i before room is kept new =
+    let alone : ys ≡ set was (2 * i + 1) b = is ∙ rw (kept, set-getD) refl in
+    subst (λ (l : List ℕ). Below odd s xs l (2 * (i + 1))) (sym alone) (odd-next s xs i before room new)

@@ -94,7 +94,23 @@ fn put_many(u: &mut [u8], v: &mut [u8], us: &[u8], vs: &[u8], none: u16, most: u
     lent::copy_front(&mut v[last..last + 16], &last_v, 16);
 }
 
-// The odd places of u and v become the bytes of us and vs, as by `put_odds` of each, which shorter and longer rows go by.
+// Rows of a few pairs: byte by byte, both rows in one loop.
+fn put_few(u: &mut [u8], v: &mut [u8], us: &[u8], vs: &[u8])
+    requires { ⌜ length (now u) ≡ length (now v) ⌝ }
+    requires { ⌜ OddsFit (length (now u)) (length (now us)) × OddsFit (length (now v)) (length (now vs)) ⌝ }
+    ensures u { λ _. ⌜ now (u .exit) ≡ paint odd (λ k. getD (now (us .entry)) (k / 2) 0) (now (u .entry)) ⌝ }
+    ensures v { λ _. ⌜ now (v .exit) ≡ paint odd (λ k. getD (now (vs .entry)) (k / 2) 0) (now (v .entry)) ⌝ }
+{
+    let pairs = u.len() / 2;
+    let mut i: usize = 0;
+    while i < pairs {
+        u[2 * i + 1] = us[i];
+        v[2 * i + 1] = vs[i];
+        i += 1;
+    }
+}
+
+// The odd places of u and v become the bytes of us and vs, as by `put_odds` of each, which longer rows go by.
 pub fn put_odds(u: &mut [u8], v: &mut [u8], us: &[u8], vs: &[u8])
     requires { ⌜ length (now u) ≡ length (now v) ⌝ }
     requires { ⌜ OddsFit (length (now u)) (length (now us)) × OddsFit (length (now v)) (length (now vs)) ⌝ }
@@ -108,6 +124,10 @@ pub fn put_odds(u: &mut [u8], v: &mut [u8], us: &[u8], vs: &[u8])
             put_many(u, v, us, vs, none, n - 8);
             return;
         }
+    }
+    if n < 8 {
+        put_few(u, v, us, vs);
+        return;
     }
     crate::put_odds(u, us);
     crate::put_odds(v, vs);

@@ -3,7 +3,7 @@
 use borrow.Author.Needs.{needs}
 use Prim.Native.Nat.{ℕ, _+_, _*_, _<_, _≤_}
 use native.Mathlib.Omega.{arith}
-use mathlib.Core.Path.{_≡_, ap, _∙_}
+use mathlib.Core.Path.{_≡_, sym, ap, _∙_}
 use mathlib.Core.Bool.{true}
 use lib.ListN.{length}
 use denote.Ref.{now}
@@ -148,79 +148,73 @@ stride-requires c κs = search needs
 mul-line : tie.Need-mul-line
 mul-line c = omega (arith, in-planes c)
 
-add-copy : tie.Need-add-copy
-add-copy c = omega (arith, in-planes c)
+add-copy-both : tie.Need-add-copy-both
+add-copy-both c = omega (arith, in-planes c)
 
-add-copy-2 : tie.Need-add-copy-2
-add-copy-2 c = omega (arith, in-planes c)
+add-copy-both-2 : tie.Need-add-copy-both-2
+add-copy-both-2 c = omega (arith, in-planes c)
 
-sub-copy : tie.Need-sub-copy
-sub-copy c = omega (arith, in-planes c)
+sub-copy-both : tie.Need-sub-copy-both
+sub-copy-both c = omega (arith, in-planes c)
 
-part-copy-start : tie.Need-part-copy-start
-part-copy-start c = omega (arith, in-planes c)
+part-copy-both-start : tie.Need-part-copy-both-start
+part-copy-both-start c = omega (arith, in-planes c)
 
-part-copy-end : tie.Need-part-copy-end
-part-copy-end c = omega (arith, in-planes c)
+part-copy-both-end : tie.Need-part-copy-both-end
+part-copy-both-end c = omega (arith, in-planes c)
 
-add-copy-3 : tie.Need-add-copy-3
-add-copy-3 c = omega (arith, in-view (c .before .before .before), in-planes (c .before))
+add-copy-both-3 : tie.Need-add-copy-both-3
+add-copy-both-3 c = omega (arith, in-planes (c .before))
 
-add-copy-4 : tie.Need-add-copy-4
-add-copy-4 c = omega (arith, in-view (c .before .before .before), in-planes (c .before))
+add-copy-both-4 : tie.Need-add-copy-both-4
+add-copy-both-4 c = omega (arith, in-planes (c .before))
 
-sub-copy-2 : tie.Need-sub-copy-2
-sub-copy-2 c = omega (arith, in-view (c .before .before .before), in-planes (c .before))
+sub-copy-both-2 : tie.Need-sub-copy-both-2
+sub-copy-both-2 c = omega (arith, in-planes (c .before))
 
-part-copy-start-2 : tie.Need-part-copy-start-2
-part-copy-start-2 c = omega (arith, in-view (c .before .before .before), in-planes (c .before))
+part-copy-both-start-2 : tie.Need-part-copy-both-start-2
+part-copy-both-start-2 c = omega (arith, in-planes (c .before))
 
-part-copy-end-2 : tie.Need-part-copy-end-2
-part-copy-end-2 c = omega (arith, in-view (c .before .before .before), in-planes (c .before))
+part-copy-both-end-2 : tie.Need-part-copy-both-end-2
+part-copy-both-end-2 c = omega (arith, in-planes (c .before))
 
-copy-requires : tie.Need-copy-requires
-copy-requires c κs =
-    let n = c .before .before in
-    copy-fits _ _ _ _ _ _ (in-planes n .1) (omega (arith, in-view (n .before .before))) (in-planes n .0)
+add-copy-both-5 : tie.Need-add-copy-both-5
+add-copy-both-5 c = let n = c .before .before in omega (arith, in-view (n .before .before), in-planes n)
 
--- the second call comes after the first
-abbrev stride-of : tie.After-slice-known3 → tie.After-stride
-stride-of m = m .before .before .before .before .before
+add-copy-both-6 : tie.Need-add-copy-both-6
+add-copy-both-6 c = let n = c .before .before in omega (arith, in-view (n .before .before), in-planes n)
 
-add-copy-5 : tie.Need-add-copy-5
-add-copy-5 c = omega (arith, in-planes (stride-of c))
+sub-copy-both-3 : tie.Need-sub-copy-both-3
+sub-copy-both-3 c = let n = c .before .before in omega (arith, in-view (n .before .before), in-planes n)
 
-add-copy-6 : tie.Need-add-copy-6
-add-copy-6 c = omega (arith, in-planes (stride-of c))
+part-copy-both-start-3 : tie.Need-part-copy-both-start-3
+part-copy-both-start-3 c = let n = c .before .before in omega (arith, in-view (n .before .before), in-planes n)
 
-sub-copy-3 : tie.Need-sub-copy-3
-sub-copy-3 c = omega (arith, in-planes (stride-of c))
+part-copy-both-end-3 : tie.Need-part-copy-both-end-3
+part-copy-both-end-3 c = let n = c .before .before in omega (arith, in-view (n .before .before), in-planes n)
 
-part-copy-start-3 : tie.Need-part-copy-start-3
-part-copy-start-3 c = omega (arith, in-planes (stride-of c))
+add-copy-both-7 : tie.Need-add-copy-both-7
+add-copy-both-7 c = let n = c .before .before .before in omega (arith, in-view (n .before .before), in-planes n)
 
-part-copy-end-3 : tie.Need-part-copy-end-3
-part-copy-end-3 c = omega (arith, in-planes (stride-of c))
+add-copy-both-8 : tie.Need-add-copy-both-8
+add-copy-both-8 c = let n = c .before .before .before in omega (arith, in-view (n .before .before), in-planes n)
 
-add-copy-7 : tie.Need-add-copy-7
-add-copy-7 c = let n = stride-of (c .before) in omega (arith, in-view (n .before .before), in-planes n)
+sub-copy-both-4 : tie.Need-sub-copy-both-4
+sub-copy-both-4 c = let n = c .before .before .before in omega (arith, in-view (n .before .before), in-planes n)
 
-add-copy-8 : tie.Need-add-copy-8
-add-copy-8 c = let n = stride-of (c .before) in omega (arith, in-view (n .before .before), in-planes n)
+part-copy-both-start-4 : tie.Need-part-copy-both-start-4
+part-copy-both-start-4 c = let n = c .before .before .before in omega (arith, in-view (n .before .before), in-planes n)
 
-sub-copy-4 : tie.Need-sub-copy-4
-sub-copy-4 c = let n = stride-of (c .before) in omega (arith, in-view (n .before .before), in-planes n)
+part-copy-both-end-4 : tie.Need-part-copy-both-end-4
+part-copy-both-end-4 c = let n = c .before .before .before in omega (arith, in-view (n .before .before), in-planes n)
 
-part-copy-start-4 : tie.Need-part-copy-start-4
-part-copy-start-4 c = let n = stride-of (c .before) in omega (arith, in-view (n .before .before), in-planes n)
-
-part-copy-end-4 : tie.Need-part-copy-end-4
-part-copy-end-4 c = let n = stride-of (c .before) in omega (arith, in-view (n .before .before), in-planes n)
-
-copy-requires-2 : tie.Need-copy-requires-2
-copy-requires-2 c κs =
-    let n = stride-of (c .before .before) in
-    copy-fits _ _ _ _ _ _ (in-planes n .2) (omega (arith, in-view (n .before .before))) (in-planes n .0)
+copy-both-requires : tie.Need-copy-both-requires
+copy-both-requires c κs =
+    let n = c .before .before .before .before in
+    let p = in-planes n in
+    let r = in-view (n .before .before) in
+    let one = copy-fits _ _ _ _ _ _ (p .1) (r .0) (p .0) in
+    (one, copy-fits _ _ _ _ _ _ (p .2) (r .1) (p .0), one ∙ sym (copy-fits _ _ _ _ _ _ (p .2) (r .0) (p .0)))
 
 same-length : tie.Need-same-length
 same-length c = search needs
@@ -230,20 +224,18 @@ same-length-2 c = search needs
 
 returns-4 : tie.Need-returns-4
 returns-4 c =
-    let cv = c .before .before in
-    let m = cv .before .before .before in
-    let cu = m .before .before in
-    let n = stride-of m in
+    let call = c .before .before .before .before in
+    let n = call .before .before .before .before .before in
     let l = n .before .before in
     let f = l .before .before .before in
     let s = entry (second-of f) in
     let a = s .args in
     let p = s .pre in
     let pair = pair-there (second-of f) in (
-      λ vu vv. v1-odd-written CU (a .size) (a .w) (now (a .vy)) vu vv (now (a .u)) (cu .copy .last .0) (a .row) (a .left) (a .right) (l .least .result) (n .stride .result) _ (p .0) (n .stride .ensures .0) (in-planes n .0)
-          (p .1 .1 .1) (pair .0) (first-there f) (l .least .ensures) (cu .copy .kept .0) (cu .copy .ensures),
-      λ vu vv. v1-odd-written CV (a .size) (a .w) (now (a .vy)) vu vv (now (a .v)) (cv .copy2 .last .0) (a .row) (a .left) (a .right) (l .least .result) (n .stride .result) _ (p .1 .0) (n .stride .ensures .0) (in-planes n .0)
-          (p .1 .1 .1) (pair .0) (pair .1) (l .least .ensures) (cv .copy2 .kept .0) (cv .copy2 .ensures),
+      λ vu vv. v1-odd-written CU (a .size) (a .w) (now (a .vy)) vu vv (now (a .u)) (call .copy-both .last .0) (a .row) (a .left) (a .right) (l .least .result) (n .stride .result) _ (p .0) (n .stride .ensures .0) (in-planes n .0)
+          (p .1 .1 .1) (pair .0) (first-there f) (l .least .ensures) (call .copy-both .kept .0) (call .copy-both .ensures .0),
+      λ vu vv. v1-odd-written CV (a .size) (a .w) (now (a .vy)) vu vv (now (a .v)) (call .copy-both .last .1 .0) (a .row) (a .left) (a .right) (l .least .result) (n .stride .result) _ (p .1 .0) (n .stride .ensures .0) (in-planes n .0)
+          (p .1 .1 .1) (pair .0) (pair .1) (l .least .ensures) (call .copy-both .kept .1 .0) (call .copy-both .ensures .1),
     )
 
 pub v1-odd-row-spec : {M : Type 1} → statement M
@@ -267,28 +259,27 @@ v1-odd-row-spec =
     returns-3
     stride-requires
     mul-line
-    add-copy
-    add-copy-2
-    sub-copy
-    part-copy-start
-    part-copy-end
-    add-copy-3
-    add-copy-4
-    sub-copy-2
-    part-copy-start-2
-    part-copy-end-2
-    copy-requires
-    add-copy-5
-    add-copy-6
-    sub-copy-3
-    part-copy-start-3
-    part-copy-end-3
-    add-copy-7
-    add-copy-8
-    sub-copy-4
-    part-copy-start-4
-    part-copy-end-4
-    copy-requires-2
+    add-copy-both
+    add-copy-both-2
+    sub-copy-both
+    part-copy-both-start
+    part-copy-both-end
+    add-copy-both-3
+    add-copy-both-4
+    sub-copy-both-2
+    part-copy-both-start-2
+    part-copy-both-end-2
+    add-copy-both-5
+    add-copy-both-6
+    sub-copy-both-3
+    part-copy-both-start-3
+    part-copy-both-end-3
+    add-copy-both-7
+    add-copy-both-8
+    sub-copy-both-4
+    part-copy-both-start-4
+    part-copy-both-end-4
+    copy-both-requires
     same-length
     same-length-2
     returns-4)
