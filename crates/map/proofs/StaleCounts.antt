@@ -1,4 +1,5 @@
--- Counts over the map: a part of a row is counted, two pixels of a row have one block between them, and so have two rows.
+-- Counts over the map: a part of a row is counted, a short row is seen to be complete, two pixels of a row have one block between them, and so have
+-- two rows.
 -- Assumes nothing.
 use Prim.Native.Nat.{ℕ, zero, suc, _+_, _*_, _-_, _/_, _%_, _≤_, _<_}
 use native.Mathlib.Nat.{suc-mul, zero-mul}
@@ -6,12 +7,14 @@ use native.Mathlib.Numerals.{add-one}
 use native.Mathlib.Omega.{arith}
 use mathlib.Core.Path.{_≡_, sym, ap, _∙_}
 use mathlib.Core.Bool.{Bool}
+use mathlib.Core.Logic.{⊎-elim}
 use mathlib.Core.List.{List}
 use lib.ListN.{length, getD, take, drop, length-drop}
 use lib.Seq.{getD-take, getD-drop, length-take-le}
 use Rattle.lent.specs.Counts.{total, one, countOf}
 use Rattle.lent.specs.Samples.{sample}
-use Rattle.lent.proofs.Counts.{total-none, total-one, total-more, total-same, total-low, count-low}
+use Rattle.lent.proofs.Bools.{split}
+use Rattle.lent.proofs.Counts.{total-none, total-one, total-more, total-same, total-low, total-zero, count-low}
 use Rattle.map.specs.Map.{stale, staleRowsOf}
 
 -- one place, and one value everywhere
@@ -40,6 +43,31 @@ count-part t line a e n m ordered fits before here =
     (λ i. before i + (here ∙ part-count t line a e ordered fits) i)
     ∙ total-more a (e - a) (λ j. one (t (getD line j 0)))
     ∙ ap (λ (k : ℕ). countOf k (λ j. t (getD line j 0))) whole
+
+-- four bytes as one number, the first one lowest: 33686018 is four of 2
+abbrev pub FourAt : List ℕ → ℕ → ℕ → Type 0
+FourAt line i w =
+    (w % 256 ≡ getD line i 0) × (w / 256 % 256 ≡ getD line (i + 1) 0) × (w / 65536 % 256 ≡ getD line (i + 2) 0) × (w / 16777216 ≡ getD line (i + 3) 0)
+
+four-complete : (line : List ℕ) (i k w : ℕ) → i ≤ k → k < i + 4 → FourAt line i w → w ≡ 33686018 → getD line k 0 ≡ 2
+four-complete line i k w ge lt four is =
+    let at : (j v : ℕ) → k ≡ j → v ≡ getD line j 0 → v ≡ 2 → getD line k 0 ≡ 2 = λ j v e f g. ap (λ (m : ℕ). getD line m 0) e ∙ sym f ∙ g in
+    ⊎-elim
+    (λ lt′. ⊎-elim (λ lt″. at i _ (omega arith) (four .0) (omega arith)) (λ ge″. at (i + 1) _ (omega arith) (four .1) (omega arith)) (split k (i + 1)))
+    (λ ge′. ⊎-elim (λ lt″. at (i + 2) _ (omega arith) (four .2) (omega arith)) (λ ge″. at (i + 3) _ (omega arith) (four .3) (omega arith)) (split k (i + 3)))
+    (split k (i + 2))
+
+-- the first four of at most 8 bytes are 2, and the last four: no byte is another
+pub ends-complete : (line : List ℕ) (v w : ℕ) → 4 ≤ length line → length line ≤ 8
+    → FourAt line 0 v → v ≡ 33686018 → FourAt line (length line - 4) w → w ≡ 33686018
+    → countOf (length line) (λ k. stale (getD line k 0)) ≡ 0
+ends-complete line v w least most first first-is last last-is =
+    total-zero (length line) _
+    (λ k lt. ap (λ (b : ℕ). one (stale b))
+    (⊎-elim
+    (λ low. four-complete line 0 k v (omega arith) (omega arith) first first-is)
+    (λ high. four-complete line (length line - 4) k w (omega arith) (omega arith) last last-is)
+    (split k 4)))
 
 -- ---- the pixels of a row by their blocks: f is what a block gives
 

@@ -8,12 +8,15 @@ use mathlib.Core.Bool.{Bool, true, false, cond}
 use mathlib.Core.List.{List}
 use lib.Dec.{ltb, eqb}
 use lib.ListN.{length, getD, set}
-use borrow.Author.Tests.{le-ltb}
-use Rattle.lent.specs.Paint.{paint, painted}
+use borrow.Author.Tests.{le-ltb, eqb-true, eq-eqb}
+use Rattle.lent.specs.Paint.{paint, painted, within}
 use Rattle.lent.specs.Samples.{sample}
-use Rattle.lent.proofs.Bools.{cond-false}
-use Rattle.lent.proofs.Paint.{paint-next, getD-paint}
+use Rattle.lent.proofs.Bools.{same-test, cond-false}
+use Rattle.lent.proofs.ByPart.{so-far-past, so-far-over}
+use Rattle.lent.proofs.Paint.{paint-next, paint-ext, getD-paint}
 use Rattle.lent.proofs.Painted.{painted-at, painted-ext}
+use Rattle.lent.proofs.SoFar.{SoFar}
+use Rattle.lent.proofs.Taken.{within-facts, within-holds}
 use Rattle.map.specs.Map.{turnedOf, turnedAt}
 
 pub turn-next : (d dst : List ℕ) (k b : ℕ) → k < length d → dst ≡ paint (λ j. ltb j k) (λ j. turnedOf (getD d j 0)) d → b ≡ turnedOf (getD dst k 0)
@@ -22,6 +25,23 @@ turn-next d dst k b lt is e =
     let read : getD dst k 0 ≡ getD d k 0 = ap (λ (m : List ℕ). getD m k 0) is ∙ getD-paint (λ j. ltb j k) (λ j. turnedOf (getD d j 0)) d k lt ∙ cond-false (ltb k k) _ _ (le-ltb k k (omega arith)) in
     let put : b ≡ turnedOf (getD d k 0) = e ∙ ap turnedOf read in
     ap (λ (l : List ℕ). set l k b) is ∙ paint-next (λ j. turnedOf (getD d j 0)) d k b lt put
+
+-- the place i alone, whether there is one or not
+pub turn-place : (d : List ℕ) {was ys : List ℕ} (i : ℕ) → SoFar (λ k. turnedOf (getD d k 0)) d was i
+    → ys ≡ paint (λ k. eqb k i) (λ k. turnedOf (getD was k 0)) was
+    → SoFar (λ k. turnedOf (getD d k 0)) d ys (i + 1)
+turn-place d {was} i f back =
+    so-far-over _ d i i (i + 1) (λ k. turnedOf (getD d k 0)) (omega arith) (omega arith) f
+    (back
+    ∙ paint-ext (λ k. eqb k i) (within i (i + 1)) _ _ was (λ k h. place k)
+    (λ k h e. let at = eqb-true k i e in ap turnedOf (so-far-past _ d i k f (omega arith) (omega (arith, f .0)))))
+    (λ k ge lt. refl)
+  where
+    place : (k : ℕ) → eqb k i ≡ within i (i + 1) k
+    place k =
+        same-test _ _
+        (λ e. let at = eqb-true k i e in within-holds i (i + 1) k (omega arith) (omega arith))
+        (λ e. let w = within-facts i (i + 1) k e in eq-eqb k i (omega arith))
 
 -- twice is once
 twice : (n : ℕ) → turnedOf (turnedOf n) ≡ turnedOf n

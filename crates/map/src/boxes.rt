@@ -1,8 +1,8 @@
 // Boxes of blocks are set or turned. A box is an area of blocks, not of samples; no sample of a plane is looked at. Each writer promises every
 // byte of the map's buffer.
 ghost use mathlib.Core.Path.{_≡_};
-ghost use Prim.Native.Nat.{_*_, _≤_, min, max};
-ghost use lib.Dec.{ltb};
+ghost use Prim.Native.Nat.{_*_, _<_, _≤_, min, max};
+ghost use lib.Dec.{ltb, eqb};
 ghost use lib.ListN.{length, getD};
 ghost use Rattle.lent.specs.Paint.{paint, every, painted};
 ghost use Rattle.rects.specs.Rects.{inArea};
@@ -40,6 +40,23 @@ fn set_ends(dst: &mut [u8], value: u8, size: usize)
     set_front(&mut dst[n - size..n], value, size);
 }
 
+// Every byte of dst becomes `value`, at most 8 bytes.
+fn set_few(dst: &mut [u8], value: u8)
+    requires { ⌜ length (now dst) ≤ 8 ⌝ }
+    ensures { λ _. ⌜ now (dst .exit) ≡ paint every (λ k. value) (now (dst .entry)) ⌝ }
+{
+    let n = dst.len();
+    if 4 <= n {
+        set_ends(dst, value, 4);
+        return;
+    }
+    if 2 <= n {
+        set_ends(dst, value, 2);
+        return;
+    }
+    set_front(dst, value, n);
+}
+
 // Every byte of dst becomes `value`. Short rows of blocks, of which one macroblock has 8, go without the C library's memset: a call of it takes
 // longer than they do.
 fn set_part(dst: &mut [u8], value: u8)
@@ -50,15 +67,21 @@ fn set_part(dst: &mut [u8], value: u8)
         set_front(dst, value, 8);
         return;
     }
-    if 16 <= n {
-        if n < 32 {
-            set_ends(dst, value, 16);
-            return;
-        }
-        if n <= 64 {
-            set_ends(dst, value, 32);
-            return;
-        }
+    if n < 8 {
+        set_few(dst, value);
+        return;
+    }
+    if n < 16 {
+        set_ends(dst, value, 8);
+        return;
+    }
+    if n < 32 {
+        set_ends(dst, value, 16);
+        return;
+    }
+    if n <= 64 {
+        set_ends(dst, value, 32);
+        return;
     }
     lent::fill(dst, value);
 }
@@ -120,6 +143,50 @@ fn turn_8(dst: &mut [u8])
     lent::copy_front(dst, &t, 8);
 }
 
+// Every 1 of dst becomes 2, 4 to 8 bytes: the first four and the last, whatever the two have in common. What both become is found before one is
+// written, so that each is one load and one store. The size is written out, here and in its likes: where it is handed over, the compiler
+// turns byte by byte.
+fn turn_by_4(dst: &mut [u8])
+    requires { ⌜ (4 ≤ length (now dst)) × (length (now dst) ≤ 8) ⌝ }
+    ensures { λ _. ⌜ now (dst .exit) ≡ paint every (λ k. turnedOf (getD (now (dst .entry)) k 0)) (now (dst .entry)) ⌝ }
+{
+    let n = dst.len();
+    let mut first = [0u8; 4];
+    let mut last = [0u8; 4];
+    turned_front(&mut first, dst, 4);
+    turned_front(&mut last, &dst[n - 4..n], 4);
+    lent::copy_front(dst, &first, 4);
+    lent::copy_front(&mut dst[n - 4..n], &last, 4);
+}
+
+// The same of 8 to 16 bytes.
+fn turn_by_8(dst: &mut [u8])
+    requires { ⌜ (8 ≤ length (now dst)) × (length (now dst) ≤ 16) ⌝ }
+    ensures { λ _. ⌜ now (dst .exit) ≡ paint every (λ k. turnedOf (getD (now (dst .entry)) k 0)) (now (dst .entry)) ⌝ }
+{
+    let n = dst.len();
+    let mut first = [0u8; 8];
+    let mut last = [0u8; 8];
+    turned_front(&mut first, dst, 8);
+    turned_front(&mut last, &dst[n - 8..n], 8);
+    lent::copy_front(dst, &first, 8);
+    lent::copy_front(&mut dst[n - 8..n], &last, 8);
+}
+
+// The same of 16 to 32 bytes.
+fn turn_by_16(dst: &mut [u8])
+    requires { ⌜ (16 ≤ length (now dst)) × (length (now dst) ≤ 32) ⌝ }
+    ensures { λ _. ⌜ now (dst .exit) ≡ paint every (λ k. turnedOf (getD (now (dst .entry)) k 0)) (now (dst .entry)) ⌝ }
+{
+    let n = dst.len();
+    let mut first = [0u8; 16];
+    let mut last = [0u8; 16];
+    turned_front(&mut first, dst, 16);
+    turned_front(&mut last, &dst[n - 16..n], 16);
+    lent::copy_front(dst, &first, 16);
+    lent::copy_front(&mut dst[n - 16..n], &last, 16);
+}
+
 // Every 1 of dst becomes 2, 32 to 48 bytes: a row of blocks of a tile 64 pixels wide, with odd edges or without. What the three parts become is
 // found before any is written, since the last one may lie over the second.
 fn turn_three(dst: &mut [u8])
@@ -129,13 +196,33 @@ fn turn_three(dst: &mut [u8])
     let n = dst.len();
     let mut first = [0u8; 16];
     let mut second = [0u8; 16];
-    let mut last = [0u8; 16];
+    let mut third = [0u8; 16];
     turned_front(&mut first, dst, 16);
     turned_front(&mut second, &dst[16..32], 16);
-    turned_front(&mut last, &dst[n - 16..n], 16);
+    turned_front(&mut third, &dst[n - 16..n], 16);
     lent::copy_front(dst, &first, 16);
     lent::copy_front(&mut dst[16..32], &second, 16);
-    lent::copy_front(&mut dst[n - 16..n], &last, 16);
+    lent::copy_front(&mut dst[n - 16..n], &third, 16);
+}
+
+// The byte at k, where there is one: 1 becomes 2. A byte by itself is a choice, and no branch.
+fn turn_at(dst: &mut [u8], k: usize)
+    ensures { λ _. ⌜ now (dst .exit) ≡ paint (λ j. eqb j k) (λ j. turnedOf (getD (now (dst .entry)) j 0)) (now (dst .entry)) ⌝ }
+{
+    if k < dst.len() {
+        let b = dst[k];
+        dst[k] = if b == 1 { 2 } else { b };
+    }
+}
+
+// Every 1 of dst becomes 2, at most 3 bytes.
+fn turn_few(dst: &mut [u8])
+    requires { ⌜ length (now dst) ≤ 3 ⌝ }
+    ensures { λ _. ⌜ now (dst .exit) ≡ paint every (λ k. turnedOf (getD (now (dst .entry)) k 0)) (now (dst .entry)) ⌝ }
+{
+    turn_at(dst, 0);
+    turn_at(dst, 1);
+    turn_at(dst, 2);
 }
 
 // Every 1 of dst becomes 2, byte by byte.
@@ -150,6 +237,23 @@ fn turn_each(dst: &mut [u8])
     }
 }
 
+// Every 1 of dst becomes 2, fewer than 16 bytes.
+fn turn_short(dst: &mut [u8])
+    requires { ⌜ length (now dst) < 16 ⌝ }
+    ensures { λ _. ⌜ now (dst .exit) ≡ paint every (λ k. turnedOf (getD (now (dst .entry)) k 0)) (now (dst .entry)) ⌝ }
+{
+    let n = dst.len();
+    if n < 4 {
+        turn_few(dst);
+        return;
+    }
+    if n < 8 {
+        turn_by_4(dst);
+        return;
+    }
+    turn_by_8(dst);
+}
+
 // Every 1 of dst becomes 2.
 fn turn(dst: &mut [u8])
     ensures { λ _. ⌜ now (dst .exit) ≡ paint every (λ k. turnedOf (getD (now (dst .entry)) k 0)) (now (dst .entry)) ⌝ }
@@ -159,11 +263,17 @@ fn turn(dst: &mut [u8])
         turn_8(dst);
         return;
     }
-    if 32 <= n {
-        if n <= 48 {
-            turn_three(dst);
-            return;
-        }
+    if n < 16 {
+        turn_short(dst);
+        return;
+    }
+    if n < 32 {
+        turn_by_16(dst);
+        return;
+    }
+    if n <= 48 {
+        turn_three(dst);
+        return;
     }
     turn_each(dst);
 }

@@ -1,6 +1,7 @@
 // How many pixels of a rectangle lie in blocks that are not complete.
 ghost use mathlib.Core.Path.{_≡_};
 ghost use Prim.Native.Nat.{_+_, _*_, _/_, _%_, _≤_, _<_};
+ghost use mathlib.Core.Bool.{true};
 ghost use lib.ListN.{length, getD};
 ghost use Rattle.lent.specs.Counts.{one, countOf};
 ghost use Rattle.map.specs.Map.{acrossOf, stale, staleRowsOf, StaleFits};
@@ -27,11 +28,29 @@ fn few_stale(part: &[u8]) -> u8
     n
 }
 
-// How many bytes are not 2, in parts of 255. A short line is one part, and no loop.
+// Whether all of 4 to 8 bytes are 2, by their first four and their last: 33686018 is four bytes of 2.
+fn all_complete(line: &[u8]) -> bool
+    requires { ⌜ (4 ≤ length (now line)) × (length (now line) ≤ 8) ⌝ }
+    ensures { λ r. ⌜ (r ≡ true → countOf (length (now (line .entry))) (λ k. stale (getD (now (line .entry)) k 0)) ≡ 0) ⌝ }
+{
+    if lent::words::four(line, 0) != 33686018 {
+        return false;
+    }
+    lent::words::four(line, line.len() - 4) == 33686018
+}
+
+// How many bytes are not 2, in parts of 255. A short line is one part, and no loop; that of a macroblock is mostly complete.
 fn blocks_stale(line: &[u8]) -> usize
     ensures { λ r. ⌜ r ≡ countOf (length (now (line .entry))) (λ k. stale (getD (now (line .entry)) k 0)) ⌝ }
 {
     let end = line.len();
+    if end <= 8 {
+        if 4 <= end {
+            if all_complete(line) {
+                return 0;
+            }
+        }
+    }
     if end < 256 {
         return few_stale(line) as usize;
     }

@@ -15,8 +15,8 @@ same-length c = search needs
 returns : tie.Need-returns
 returns c = so-far-all _ _ 8 (omega arith, c .before .before .set-front .ensures) (omega arith)
 
-set-ends-requires : tie.Need-set-ends-requires
-set-ends-requires c κs = search needs
+set-few-requires : tie.Need-set-few-requires
+set-few-requires c κs = search needs
 
 same-length-2 : tie.Need-same-length-2
 same-length-2 c = search needs
@@ -24,8 +24,8 @@ same-length-2 c = search needs
 returns-2 : tie.Need-returns-2
 returns-2 c = search needs
 
-set-ends-requires-2 : tie.Need-set-ends-requires-2
-set-ends-requires-2 c κs = search needs
+set-ends-requires : tie.Need-set-ends-requires
+set-ends-requires c κs = search needs
 
 same-length-3 : tie.Need-same-length-3
 same-length-3 c = search needs
@@ -33,14 +33,32 @@ same-length-3 c = search needs
 returns-3 : tie.Need-returns-3
 returns-3 c = search needs
 
-fill-requires : tie.Need-fill-requires
-fill-requires c κs = search needs
+set-ends-requires-2 : tie.Need-set-ends-requires-2
+set-ends-requires-2 c κs = search needs
 
 same-length-4 : tie.Need-same-length-4
 same-length-4 c = search needs
 
 returns-4 : tie.Need-returns-4
 returns-4 c = search needs
+
+set-ends-requires-3 : tie.Need-set-ends-requires-3
+set-ends-requires-3 c κs = search needs
+
+same-length-5 : tie.Need-same-length-5
+same-length-5 c = search needs
+
+returns-5 : tie.Need-returns-5
+returns-5 c = search needs
+
+fill-requires : tie.Need-fill-requires
+fill-requires c κs = search needs
+
+same-length-6 : tie.Need-same-length-6
+same-length-6 c = search needs
+
+returns-6 : tie.Need-returns-6
+returns-6 c = search needs
 
 pub set-part-spec : {M : Type 1} → statement M
 set-part-spec =
@@ -49,12 +67,18 @@ set-part-spec =
     set-front-requires
     same-length
     returns
-    set-ends-requires
+    set-few-requires
     same-length-2
     returns-2
-    set-ends-requires-2
+    set-ends-requires
     same-length-3
     returns-3
-    fill-requires
+    set-ends-requires-2
     same-length-4
-    returns-4)
+    returns-4
+    set-ends-requires-3
+    same-length-5
+    returns-5
+    fill-requires
+    same-length-6
+    returns-6)

@@ -2,33 +2,16 @@
 -- where it ends.
 -- Assumes nothing.
 use borrow.Author.Needs.{needs}
-use Prim.Native.Nat.{ℕ, _+_, _-_, _<_, _≤_}
+use Prim.Native.Nat.{ℕ, _-_}
 use native.Mathlib.Omega.{arith}
-use mathlib.Core.Path.{_≡_, refl, ap, _∙_}
-use mathlib.Core.List.{List, _++_}
-use lib.Dec.{ltb}
-use lib.ListN.{length, getD, take, drop}
-use lib.Seq.{getD-take, getD-drop}
-use borrow.Author.Tests.{ltb-true}
-use Rattle.lent.specs.Paint.{paint, every}
-use Rattle.lent.proofs.Bools.{cond-true}
-use Rattle.lent.proofs.Paint.{getD-paint, paint-ext}
-use Rattle.lent.proofs.Copies.{by-array}
-use Rattle.lent.proofs.SoFar.{SoFar, so-far-all}
-use Rattle.lent.proofs.ByPart.{part-long, so-far-part, so-far-part-over}
-use Rattle.map.specs.Map.{turnedOf}
+use mathlib.Core.Path.{refl}
+use mathlib.Core.List.{List}
+use lib.ListN.{length}
+use Rattle.lent.proofs.SoFar.{so-far-all}
+use Rattle.lent.proofs.ByEnds.{array-front, array-part}
+use Rattle.map.proofs.TurnedParts.{turned, part-turned}
 use Rattle.map.proofs.boxes.turn_three.Statement.{statement}
 use Rattle.map.proofs.boxes.turn_three.Tie as tie
-
--- the first n places, by way of an array
-front : (xs t : List ℕ) (f : ℕ → ℕ) (n : ℕ) → n ≤ length t → paint (λ k. ltb k n) (λ k. getD (paint (λ k. ltb k n) f t) k 0) xs ≡ paint (λ k. ltb k n) f xs
-front xs t f n room =
-    paint-ext _ _ _ f xs (λ k h. refl)
-    (λ k h e. let lt = ltb-true k n e in getD-paint (λ k. ltb k n) f t k (omega arith) ∙ cond-true (ltb k n) (f k) (getD t k 0) e)
-
--- a part of the bytes that were there at first
-of-part : (xs : List ℕ) (a e j : ℕ) → a + j < e → turnedOf (getD (take (e - a) (drop a xs)) j 0) ≡ turnedOf (getD xs (a + j) 0)
-of-part xs a e j h = ap turnedOf (getD-take (e - a) (drop a xs) j 0 (omega arith) ∙ getD-drop a xs j 0)
 
 slice-aggregate-turned-front : tie.Need-slice-aggregate-turned-front
 slice-aggregate-turned-front c = search needs
@@ -116,22 +99,17 @@ returns c =
     let third = c .before .before in
     let second = third .before .before .before .before .before in
     let first = second .before .before .before .before .before in
-    let last-turned = first .before .before .before .before in
-    let second-turned = last-turned .before .before .before .before .before in
+    let third-turned = first .before .before .before .before in
+    let second-turned = third-turned .before .before .before .before .before in
     let first-turned = second-turned .before .before .before .before .before in
     let xs : List ℕ = first-turned .before .before .before .before .args .dst .now in
     let n : ℕ = length xs in
-    let s : ℕ → ℕ = λ k. turnedOf (getD xs k 0) in
-    let one : SoFar s xs (first .copy-front .last .0) 16 = (omega arith, first .copy-front .ensures ∙ rw (first-turned .turned-front .ensures) (front xs _ s 16 (omega arith))) in
-    let dst₁ : List ℕ = first .copy-front .last .0 in
-    let u₂ : ℕ → ℕ = λ j. turnedOf (getD (take 16 (drop 16 xs)) j 0) in
-    let back₂ : second .copy-front2 .last .0 ≡ paint every u₂ (take 16 (drop 16 dst₁)) = second .copy-front2 .ensures ∙ rw (second-turned .turned-front2 .ensures) (by-array (take 16 (drop 16 dst₁)) _ u₂ 16 (part-long dst₁ 16 32 (omega arith) (omega arith)) (omega arith)) in
-    let two = so-far-part s xs 16 32 u₂ (omega arith) (omega arith) one back₂ (of-part xs 16 32) in
-    let dst₂ : List ℕ = take 16 dst₁ ++ (second .copy-front2 .last .0 ++ drop 16 (drop 16 dst₁)) in
-    let u₃ : ℕ → ℕ = λ j. turnedOf (getD (take (n - (n - 16)) (drop (n - 16) xs)) j 0) in
-    let long : length (take (n - (n - 16)) (drop (n - 16) dst₂)) ≡ 16 = part-long dst₂ (n - 16) n (omega arith) (omega (arith, two .0)) ∙ omega arith in
-    let back₃ : third .copy-front3 .last .0 ≡ paint every u₃ (take (n - (n - 16)) (drop (n - 16) dst₂)) = third .copy-front3 .ensures ∙ rw (last-turned .turned-front3 .ensures) (by-array (take (n - (n - 16)) (drop (n - 16) dst₂)) _ u₃ 16 long (omega arith)) in
-    so-far-all s xs n (so-far-part-over s xs 32 (n - 16) n u₃ (omega arith) (omega arith) (omega arith) two back₃ (of-part xs (n - 16) n)) (omega arith)
+    let one = array-front (turned xs) xs _ 16 (omega arith) (first-turned .turned-front .ensures) (first .copy-front .ensures) in
+    let two = array-part (turned xs) xs _ _ 16 16 32 16 refl (omega arith) (omega arith) (omega arith) (omega arith) (part-turned xs 16 32) one
+    (second-turned .turned-front2 .ensures) (second .copy-front2 .ensures) in
+    let all = array-part (turned xs) xs _ _ 32 (n - 16) n 16 (omega arith) (omega arith) (omega arith) (omega arith) (omega arith) (part-turned xs (n - 16) n) two
+    (third-turned .turned-front3 .ensures) (third .copy-front3 .ensures) in
+    so-far-all _ xs n all (omega arith)
 
 pub turn-three-spec : {M : Type 1} → statement M
 turn-three-spec =

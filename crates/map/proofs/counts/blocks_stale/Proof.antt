@@ -3,7 +3,7 @@
 use borrow.Author.Needs.{needs}
 use Prim.Native.Nat.{ℕ, _+_, _-_, _≤_}
 use native.Mathlib.Omega.{arith}
-use mathlib.Core.Path.{_≡_, ap, _∙_}
+use mathlib.Core.Path.{_≡_, sym, ap, _∙_}
 use lib.ListN.{length, getD}
 use denote.Ref.{now}
 use Rattle.lent.specs.Counts.{countOf}
@@ -21,12 +21,19 @@ abbrev μ-loop : tie.MeasureT-loop
 
 -- the part that was counted is counted too
 counted : (c : tie.After-few-stale2 Inv-loop μ-loop) → let m = c .before .before in let l = m .before .before in
-    l .loop .n + c .few-stale2 .result ≡ countOf (l .loop .k + m .least .result) (λ j. stale (getD (now (l .before .before .before .args .line)) j 0))
+    l .loop .n + c .few-stale2 .result ≡ countOf (l .loop .k + m .least .result) (λ j. stale (getD (now (l .before .before .before .before .args .line)) j 0))
 counted c =
     let m = c .before .before in
     let l = m .before .before in
-    count-part stale (now (l .before .before .before .args .line)) (l .loop .k) (l .loop .k + m .least .result) (l .loop .n) (c .few-stale2 .result) (omega arith)
+    count-part stale (now (l .before .before .before .before .args .line)) (l .loop .k) (l .loop .k + m .least .result) (l .loop .n) (c .few-stale2 .result) (omega arith)
     (omega arith) (l .loop .inv .1) (c .few-stale2 .ensures)
+
+all-complete-requires : tie.Need-all-complete-requires Inv-loop μ-loop
+all-complete-requires c κs = search needs
+
+-- a complete line has none
+returns : tie.Need-returns Inv-loop μ-loop
+returns c = sym (c .before .all-complete .ensures (c .if3 .taken))
 
 few-stale-requires : tie.Need-few-stale-requires Inv-loop μ-loop
 few-stale-requires c κs = search needs
@@ -34,8 +41,8 @@ few-stale-requires c κs = search needs
 cast-result : tie.Need-cast-result Inv-loop μ-loop
 cast-result c = omega arith
 
-returns : tie.Need-returns Inv-loop μ-loop
-returns c = c .few-stale .ensures
+returns-2 : tie.Need-returns-2 Inv-loop μ-loop
+returns-2 c = c .few-stale .ensures
 
 loop-holds : tie.Need-loop-holds Inv-loop μ-loop
 loop-holds c = (omega arith, total-none _)
@@ -65,7 +72,7 @@ cast-n : tie.Need-cast-n Inv-loop μ-loop
 cast-n c = omega arith
 
 add-n : tie.Need-add-n Inv-loop μ-loop
-add-n c = omega (arith, counted c, count-low (c .before .before .before .before .loop .k + c .before .before .least .result) (λ j. stale (getD (now (c .before .before .before .before .before .before .before .args .line)) j 0)))
+add-n c = omega (arith, counted c, count-low (c .before .before .before .before .loop .k + c .before .before .least .result) (λ j. stale (getD (now (c .before .before .before .before .before .before .before .before .args .line)) j 0)))
 
 add-k : tie.Need-add-k Inv-loop μ-loop
 add-k c = omega arith
@@ -76,10 +83,10 @@ loop-less c = omega arith
 loop-again : tie.Need-loop-again Inv-loop μ-loop
 loop-again c = (omega arith, counted c)
 
-returns-2 : tie.Need-returns-2 Inv-loop μ-loop
-returns-2 c =
+returns-3 : tie.Need-returns-3 Inv-loop μ-loop
+returns-3 c =
     let l = c .before in
-    let line = l .before .before .before .args .line .now in
+    let line = l .before .before .before .before .args .line .now in
     let all : l .loop .k ≡ length line = omega arith in
     l .loop .inv .1 ∙ ap (λ (m : ℕ). countOf m (λ j. stale (getD line j 0))) all
 
@@ -89,9 +96,11 @@ blocks-stale-spec =
     (tie.spec
     Inv-loop
     μ-loop
+    all-complete-requires
+    returns
     few-stale-requires
     cast-result
-    returns
+    returns-2
     loop-holds
     sub-least
     least-requires
@@ -105,4 +114,4 @@ blocks-stale-spec =
     add-k
     loop-less
     loop-again
-    returns-2)
+    returns-3)
