@@ -5,9 +5,10 @@
 // known from its size (specs/Boxes.antt), and two rectangles never complete together what neither does alone (proofs/Blocks.antt).
 ghost use mathlib.Core.Path.{_≡_};
 ghost use mathlib.Core.List.{[], _∷_};
-ghost use Prim.Native.Nat.{_*_, _-_, _≤_};
+ghost use Prim.Native.Nat.{_*_, _-_, _/_, _≤_, min};
 ghost use lib.ListN.{length};
 ghost use Rattle.lent.specs.Paint.{painted};
+ghost use Rattle.lent.specs.Sizes.{roundUp};
 ghost use Rattle.rects.specs.Rects.{taken, by};
 ghost use Rattle.map.specs.Map.{acrossOf, downOf, turnedAt};
 ghost use Rattle.map_apply.specs.Blocks.{mapAfter};
@@ -61,16 +62,24 @@ fn auxiliary_limits(layout: Layout, w: View) -> Limits
     }
 }
 
+// Where the blocks end of a rectangle that ends at `edge`, in a picture of that side: the widened area's half, below the limit. What does not
+// depend on the rectangle is one number, which the compiler finds once for all of them.
+fn blocks_end(edge: u16, side: u16, limit: usize) -> usize
+    ensures { λ r. ⌜ r ≡ min (roundUp 2 (min edge side) / 2) limit ⌝ }
+{
+    let most = lent::least(side as usize, 2 * lent::least(limit, 32768));
+    (lent::least(edge as usize, most) + 1) / 2
+}
+
 // The blocks of a rectangle's widened area, below the limits.
 fn block_box(size: Size, rect: Rect, limits: Limits) -> Area
     ensures { λ r. ⌜ r ≡ blockBoxOf size limits (rect .left) (rect .top) (rect .right) (rect .bottom) ⌝ }
 {
-    let area = rects::chroma_block_area(size, rect.left, rect.top, rect.right, rect.bottom);
     Area {
-        left: area.left / 2,
-        top: area.top / 2,
-        right: lent::least(area.right / 2, limits.across),
-        bottom: lent::least(area.bottom / 2, limits.down),
+        left: rect.left as usize / 2,
+        top: rect.top as usize / 2,
+        right: blocks_end(rect.right, size.width, limits.across),
+        bottom: blocks_end(rect.bottom, size.height, limits.down),
     }
 }
 
