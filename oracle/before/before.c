@@ -21,53 +21,48 @@ struct row {
     int call;
     const char *name;
     int list, calls; /* so many calls in a run */
+    uint8_t map;     /* what the map is full of before them */
 };
 
-enum { WHOLE, ODD, SMALL, ONE, ONE_ODD, SIDE_2, SIDE_8, SIDE_24, SIDE_256 };
+enum { WHOLE, ODD, SMALL, ONE, ONE_ODD, SIDES };
 
-static struct list lists[] = {
+/* The sides of squares that are applied 64 at a time, and how many calls of them are a run. */
+static const struct {
+    uint16_t side;
+    int calls;
+    const char *words;
+} sides[] = {
+    {1, 100, "64 rectangles of 1x1 at any edges"},    {2, 100, "64 rectangles of 2x2 at any edges"},
+    {4, 100, "64 rectangles of 4x4 at any edges"},    {8, 100, "64 rectangles of 8x8 at any edges"},
+    {12, 60, "64 rectangles of 12x12 at any edges"},  {18, 40, "64 rectangles of 18x18 at any edges"},
+    {24, 40, "64 rectangles of 24x24 at any edges"},  {32, 30, "64 rectangles of 32x32 at any edges"},
+    {64, 10, "64 rectangles of 64x64 at any edges"},  {128, 6, "64 rectangles of 128x128 at any edges"},
+    {256, 2, "64 rectangles of 256x256 at any edges"},
+};
+
+enum { SQUARES = sizeof sides / sizeof *sides, LISTS = SIDES + SQUARES };
+
+static struct list lists[LISTS] = {
     [WHOLE] = {"the whole frame", 4, {0, 0, WIDTH, HEIGHT}},
     [ODD] = {"500 rectangles of about 64x16 with odd edges", 4 * 500, {0}},
     [SMALL] = {"100 rectangles of 16x16", 4 * 100, {0}},
     [ONE] = {"a rectangle of 16x16", 4, {960, 544, 976, 560}},
     [ONE_ODD] = {"a rectangle of 16x16 at odd edges", 4, {961, 545, 977, 561}},
-    [SIDE_2] = {"64 rectangles of 2x2 at any edges", 4 * 64, {0}},
-    [SIDE_8] = {"64 rectangles of 8x8 at any edges", 4 * 64, {0}},
-    [SIDE_24] = {"64 rectangles of 24x24 at any edges", 4 * 64, {0}},
-    [SIDE_256] = {"64 rectangles of 256x256 at any edges", 4 * 64, {0}},
 };
 
+/* The rows of one list each. A row of picture to RGBA has the map full of one number: what it costs to count depends on it. */
 static const struct row rows[] = {
-    {NEW, "new", WHOLE, 4},
-    {FROM_RGBA, "from_rgba", WHOLE, 1},
-    {TO_RGBA, "to_rgba", WHOLE, 1},
-    {TO_RGBA, "to_rgba", ONE, 200},
-    {TO_RGBA, "to_rgba", ONE_ODD, 200},
-    {VIEW_TO_RGBA, "view_to_rgba", WHOLE, 1},
-    {MAIN, "apply_main_view", WHOLE, 4},
-    {MAIN, "apply_main_view", ODD, 8},
-    {MAIN, "apply_main_view", SMALL, 40},
-    {MAIN, "apply_main_view", SIDE_2, 100},
-    {MAIN, "apply_main_view", SIDE_8, 100},
-    {MAIN, "apply_main_view", SIDE_24, 40},
-    {MAIN, "apply_main_view", SIDE_256, 2},
-    {V1, "apply_auxiliary_v1", WHOLE, 4},
-    {V1, "apply_auxiliary_v1", ODD, 8},
-    {V1, "apply_auxiliary_v1", SMALL, 40},
-    {V1, "apply_auxiliary_v1", SIDE_2, 100},
-    {V1, "apply_auxiliary_v1", SIDE_8, 100},
-    {V1, "apply_auxiliary_v1", SIDE_24, 40},
-    {V1, "apply_auxiliary_v1", SIDE_256, 2},
-    {V2, "apply_auxiliary_v2", WHOLE, 4},
-    {V2, "apply_auxiliary_v2", ODD, 8},
-    {V2, "apply_auxiliary_v2", SMALL, 40},
-    {V2, "apply_auxiliary_v2", SIDE_2, 100},
-    {V2, "apply_auxiliary_v2", SIDE_8, 100},
-    {V2, "apply_auxiliary_v2", SIDE_24, 40},
-    {V2, "apply_auxiliary_v2", SIDE_256, 2},
-    {SPLIT_V1, "split_v1", WHOLE, 1},
-    {SPLIT_V2, "split_v2", WHOLE, 1},
+    {NEW, "new", WHOLE, 4, 2},           {FROM_RGBA, "from_rgba", WHOLE, 1, 2},     {TO_RGBA, "to_rgba", WHOLE, 1, 2},
+    {TO_RGBA, "to_rgba", ONE, 200, 2},   {TO_RGBA, "to_rgba", ONE_ODD, 200, 2},     {TO_RGBA, "to_rgba", ONE, 200, 1},
+    {TO_RGBA, "to_rgba", ONE_ODD, 200, 1}, {VIEW_TO_RGBA, "view_to_rgba", WHOLE, 1, 2}, {SPLIT_V1, "split_v1", WHOLE, 1, 2},
+    {SPLIT_V2, "split_v2", WHOLE, 1, 2},
 };
+
+/* The calls that take each of the lists but the single ones. */
+static const struct {
+    int call;
+    const char *name;
+} applies[] = {{MAIN, "apply_main_view"}, {V1, "apply_auxiliary_v1"}, {V2, "apply_auxiliary_v2"}};
 
 /* Squares of some side whose edges are odd and even by turns, all over the picture. */
 static void make_squares(struct list *list, uint16_t side)
@@ -81,10 +76,6 @@ static void make_squares(struct list *list, uint16_t side)
 /* The first two are the lists of the bench beside the original (runs/src/suites/apply/bench.rs). */
 static void make_lists(void)
 {
-    make_squares(&lists[SIDE_2], 2);
-    make_squares(&lists[SIDE_8], 8);
-    make_squares(&lists[SIDE_24], 24);
-    make_squares(&lists[SIDE_256], 256);
     for (uint16_t i = 0; i < 500; i++) {
         const uint16_t left = (i * 67 % 1850) | 1, top = (i * 31 % 1060) | 1;
         memcpy(lists[ODD].rects + 4 * i, (const uint16_t[]){left, top, left + 62 + i % 4, top + 14 + i / 4 % 4}, 8);
@@ -92,6 +83,11 @@ static void make_lists(void)
     for (uint16_t i = 0; i < 100; i++) {
         const uint16_t left = i * 7 % 120 * 16, top = i * 13 % 67 * 16;
         memcpy(lists[SMALL].rects + 4 * i, (const uint16_t[]){left, top, left + 16, top + 16}, 8);
+    }
+    for (int i = 0; i < SQUARES; i++) {
+        lists[SIDES + i].words = sides[i].words;
+        lists[SIDES + i].count = 4 * 64;
+        make_squares(&lists[SIDES + i], sides[i].side);
     }
 }
 
@@ -127,18 +123,14 @@ static int same(const struct frame *a, const struct frame *b)
 }
 
 /* Each side has a frame of its own here, as both began. */
-static void held(void)
+static void held(const struct row *row, struct frame *ours, struct frame *theirs)
 {
-    struct frame ours, theirs;
-    make_frame(&ours), make_frame(&theirs);
-    for (size_t i = 0; i < sizeof rows / sizeof *rows; i++) {
-        const struct list *list = &lists[rows[i].list];
-        const uint32_t a = after.calls[rows[i].call](&ours, list->rects, list->count);
-        const uint32_t b = before.calls[rows[i].call](&theirs, list->rects, list->count);
-        if (a || b || !same(&ours, &theirs)) {
-            fprintf(stderr, "before.c: %s, %s: the two libraries do not leave the same (%u, %u)\n", rows[i].name, list->words, a, b);
-            exit(1);
-        }
+    const struct list *list = &lists[row->list];
+    const uint32_t a = after.calls[row->call](ours, list->rects, list->count);
+    const uint32_t b = before.calls[row->call](theirs, list->rects, list->count);
+    if (a || b || !same(ours, theirs)) {
+        fprintf(stderr, "before.c: %s, %s: the two libraries do not leave the same (%u, %u)\n", row->name, list->words, a, b);
+        exit(1);
     }
 }
 
@@ -152,21 +144,43 @@ static double timed(const struct side *side, const struct row *row, struct frame
     return ((double)(b.tv_sec - a.tv_sec) * 1e9 + (double)(b.tv_nsec - a.tv_nsec)) / row->calls;
 }
 
+static void compare(const struct row *row, struct frame *frame)
+{
+    const char *stale = row->call == TO_RGBA && row->map != 2 ? ", no block complete" : "";
+    double ours = 1e18, theirs = 1e18;
+    memset(frame->map, row->map, PLANE / 4);
+    for (int run = 0; run < RUNS; run++) {
+        const double a = timed(&after, row, frame), b = timed(&before, row, frame);
+        if (a < ours) ours = a;
+        if (b < theirs) theirs = b;
+    }
+    printf("before\t%s\t%ux%u, %s%s\t%.3f\t%.3f\t\n", row->name, WIDTH, HEIGHT, lists[row->list].words, stale, ours, theirs);
+}
+
+/* One row, if its call is asked for: first held, then timed. */
+struct run {
+    struct frame frame, ours, theirs;
+    const char *only;
+};
+
+static void one(struct run *run, struct row row)
+{
+    if (run->only && strcmp(run->only, row.name)) return;
+    held(&row, &run->ours, &run->theirs);
+    compare(&row, &run->frame);
+}
+
 int main(int argc, char **argv)
 {
-    struct frame frame;
+    struct run run = {.only = argc > 1 ? argv[1] : NULL};
     make_lists();
-    held();
-    make_frame(&frame);
-    for (size_t i = 0; i < sizeof rows / sizeof *rows; i++) {
-        double ours = 1e18, theirs = 1e18;
-        if (argc > 1 && strcmp(argv[1], rows[i].name)) continue;
-        for (int run = 0; run < RUNS; run++) {
-            const double a = timed(&after, &rows[i], &frame), b = timed(&before, &rows[i], &frame);
-            if (a < ours) ours = a;
-            if (b < theirs) theirs = b;
-        }
-        printf("before\t%s\t%ux%u, %s\t%.3f\t%.3f\t\n", rows[i].name, WIDTH, HEIGHT, lists[rows[i].list].words, ours, theirs);
+    make_frame(&run.frame), make_frame(&run.ours), make_frame(&run.theirs);
+    for (size_t i = 0; i < sizeof rows / sizeof *rows; i++) one(&run, rows[i]);
+    for (size_t i = 0; i < sizeof applies / sizeof *applies; i++) {
+        one(&run, (struct row){applies[i].call, applies[i].name, WHOLE, 4, 1});
+        one(&run, (struct row){applies[i].call, applies[i].name, ODD, 8, 1});
+        one(&run, (struct row){applies[i].call, applies[i].name, SMALL, 40, 1});
+        for (int k = 0; k < SQUARES; k++) one(&run, (struct row){applies[i].call, applies[i].name, SIDES + k, sides[k].calls, 1});
     }
     return 0;
 }
