@@ -15,6 +15,7 @@ pub mod ManyRows
 pub mod PartRows
 pub mod Lists
 pub mod Counts
+pub mod First
 pub mod Samples
 pub mod Pixels
 pub mod Refusal
