@@ -1,2 +1,3 @@
 -- Calls that hand back the number alone.
 pub mod Numbers
+pub mod StrictNumbers
