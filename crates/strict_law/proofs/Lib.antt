@@ -1,0 +1,2 @@
+-- Demand 3 in the strict form.
+pub mod Agree

@@ -1,0 +1,2 @@
+-- Demand 3 in the strict form: the calls that it is about.
+pub mod Walk
