@@ -4,7 +4,7 @@
 use Prim.Native.Nat.{ℕ, _/_, _<_, _≤_}
 use native.Mathlib.Omega.{arith}
 use mathlib.Core.Path.{_≡_, ap}
-use mathlib.Core.Bool.{Bool, true, false, not}
+use mathlib.Core.Bool.{true, false, not}
 use mathlib.Core.Logic.{_↔_, inl, inr, ⊎-elim, Iff·trans, Iff·and, true-and, and-true}
 use mathlib.Core.List.{List, [], _∷_}
 use lib.Dec.{ltb, eqb}

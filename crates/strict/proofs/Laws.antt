@@ -43,12 +43,12 @@ module _ (z : Size) (w : View) (rects vy vu vv y u v m : List ℕ) where
 
   -- ---- a refused call leaves the planes and the map as they were
 
-  pub strict-main-kept : {r : Answer} {rs : List (List ℕ)} → StrictMainOutcome z w rects vy vu vv y u v m r rs → (r .number ≡ 0 → ⊥) → rs ≡ y ∷ u ∷ v ∷ m ∷ []
-  strict-main-kept o some = o .buffers ∙ sym (main-left z w rects vy vu vv y u v m (λ e. some (ap (λ (a : Answer). a .number) (o .answer) ∙ e)))
+  pub strict-main-refused-kept : {r : Answer} {rs : List (List ℕ)} → StrictMainOutcome z w rects vy vu vv y u v m r rs → (r .number ≡ 0 → ⊥) → rs ≡ y ∷ u ∷ v ∷ m ∷ []
+  strict-main-refused-kept o some = o .buffers ∙ sym (main-left z w rects vy vu vv y u v m (λ e. some (ap (λ (a : Answer). a .number) (o .answer) ∙ e)))
 
-  pub strict-auxiliary-kept : (t : Layout) {r : Answer} {rs : List (List ℕ)} → StrictAuxiliaryOutcome t z w rects vy vu vv y u v m r rs → (r .number ≡ 0 → ⊥)
+  pub strict-auxiliary-refused-kept : (t : Layout) {r : Answer} {rs : List (List ℕ)} → StrictAuxiliaryOutcome t z w rects vy vu vv y u v m r rs → (r .number ≡ 0 → ⊥)
       → rs ≡ y ∷ u ∷ v ∷ m ∷ []
-  strict-auxiliary-kept t o some = o .buffers ∙ sym (auxiliary-left z w rects vy vu vv y u v m t (λ e. some (ap (λ (a : Answer). a .number) (o .answer) ∙ e)))
+  strict-auxiliary-refused-kept t o some = o .buffers ∙ sym (auxiliary-left z w rects vy vu vv y u v m t (λ e. some (ap (λ (a : Answer). a .number) (o .answer) ∙ e)))
 
   -- ---- of a sound list the strict call is the clipping call, refusals included
 

@@ -5,7 +5,7 @@ use Prim.Native.Nat.{ℕ, _/_, _%_, _<_}
 use native.Mathlib.Omega.{arith}
 use mathlib.Core.Path.{_≡_, refl, sym, _∙_}
 use mathlib.Core.Bool.{Bool, true, false, cond, true≢false, false≢true}
-use mathlib.Core.Logic.{_↔_, Iff·trans, Iff·and, Iff·symm}
+use mathlib.Core.Logic.{_↔_, Iff·trans, Iff·and}
 use mathlib.Core.List.{List}
 use lib.ListN.{length}
 use Rattle.lent.specs.Counts.{firstWhere}

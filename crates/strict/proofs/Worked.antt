@@ -1,7 +1,7 @@
 -- Sound and unsound by hand, in a picture of 5x5 pixels: each is computed over the definitions. Assumes nothing.
 use Prim.Native.Nat.{ℕ}
 use mathlib.Core.Path.{_≡_, refl}
-use mathlib.Core.Bool.{true, false, _||_}
+use mathlib.Core.Bool.{true}
 use mathlib.Core.List.{List, [], _∷_}
 use Rattle.lent.specs.Counts.{firstWhere}
 use Rattle.lent.specs.Paint.{some}

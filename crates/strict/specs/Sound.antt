@@ -1,11 +1,12 @@
--- Sound rectangles (R86): "any rectangle has left not below right, top not below bottom, right above width or bottom above height".
+-- Sound rectangles (R86), and the first one of a list that is not (R87). The whole list is refused "if any rectangle has left not below right,
+-- top not below bottom, right above width or bottom above height".
 --
 --   faultOf z q          0 for a sound rectangle q in a picture of the size z, else its first fault: 1 left not below right, 2 top not below
 --                        bottom, 3 right above the width, 4 bottom above the height
 --   Sound z q            it has none of the four, as plain inequalities (`fault-0-exactly`)
 --   Faulty z q           it has one of the four
 --   unsoundAt z rects i  rectangle i of the list has a fault
---   unsound z rects      some rectangle of the list has one: "refuse the whole list". An empty list has none
+--   unsound z rects      some rectangle of the list has one: refusal 12. An empty list has none
 --   AllSound z rects     every rectangle of the list is sound; SomeFaulty z rects: some has one of the four faults
 --   Unsound              an answer for a log: the number 0 or 7, whether some rectangle is unsound, and of the first such its fault and its index
 --   noneUnsound n        such an answer with the number n, and none present

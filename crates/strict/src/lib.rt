@@ -13,8 +13,8 @@ use layout::Layout;
 use picture::Size;
 use view::View;
 
-// The first unsound rectangle of a list: whether there is one, its fault (1 to 4) and its index; 0 where there is none. The number is 7 where
-// the list's length is no multiple of 4, and then nothing is present.
+// The first unsound rectangle of a list: whether there is one, its fault (1 to 4) and its index; both are 0 where there is none. The number is
+// 0, or 7 where the list's length is no multiple of 4, and then none is looked for.
 #[repr(C)]
 pub struct Unsound {
     pub number: u32,
@@ -23,7 +23,7 @@ pub struct Unsound {
     pub index: usize,
 }
 
-// What a log says of a list that was refused.
+// What a log says of a list that was refused (R87).
 pub fn first_unsound(size: Size, rects: &[u16]) -> Unsound
     ensures { λ r. ⌜ r ≡ firstUnsoundOf size (now (rects .entry)) ⌝ }
 {

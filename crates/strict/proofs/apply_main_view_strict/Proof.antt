@@ -43,15 +43,16 @@ same-length-3 c = search needs
 same-length-4 : tie.Need-same-length-4
 same-length-4 c = search needs
 
-none : (t : tie.Else1) → let a = start (t .before) .args in
+-- where the call is run the number is 0
+number-0 : (t : tie.Else1) → let a = start (t .before) .args in
     lentStrictNumberOf (a .size) (a .w) (now (a .rects)) (now (a .vy)) (now (a .vu)) (now (a .vv)) (now (a .y)) (now (a .u)) (now (a .v)) (now (a .map)) ≡ 0
-none t = sym (t .before .strict-number .ensures) ∙ t .if1 .left
+number-0 t = sym (t .before .strict-number .ensures) ∙ t .if1 .left
 
 returns-2 : tie.Need-returns-2
 returns-2 c =
     let t = tested (call c) in
     let a = start (t .before) .args in
-    main-run (a .size) (a .w) (now (a .rects)) (now (a .vy)) (now (a .vu)) (now (a .vv)) (now (a .y)) (now (a .u)) (now (a .v)) (now (a .map)) (none t) (call c .apply-main-view .ensures)
+    main-run (a .size) (a .w) (now (a .rects)) (now (a .vy)) (now (a .vu)) (now (a .vv)) (now (a .y)) (now (a .u)) (now (a .v)) (now (a .map)) (number-0 t) (call c .apply-main-view .ensures)
 
 pub apply-main-view-strict-spec : {M : Type 1} → statement M
 apply-main-view-strict-spec =

@@ -4,7 +4,6 @@
 use borrow.Author.Needs.{needs}
 use borrow.Author.Tests.{eq-eqb, ne-eqb}
 use mathlib.Core.Path.{_≡_, sym, _∙_}
-use mathlib.Core.Bool.{true, false}
 use Rattle.lent.proofs.Bools.{cond-true}
 use Rattle.view.specs.View.{viewNumberOf}
 use Rattle.map.specs.Map.{pictureShort}

@@ -6,12 +6,9 @@ use native.Mathlib.Omega.{arith}
 use borrow.Author.Needs.{needs}
 use borrow.Author.Tests.{eq-eqb, ne-eqb}
 use mathlib.Core.Path.{_≡_, refl, sym, ap, _∙_}
-use mathlib.Core.Bool.{true, false, not}
+use mathlib.Core.Bool.{not}
 use lib.ListN.{length}
-use lib.Dec.{eqb}
-use denote.Ref.{now}
 use Rattle.lent.proofs.First.{Passed, passed-none, passed-more, first-none, first-at}
-use Rattle.rects.specs.Rects.{rectAtOf}
 use Rattle.strict.specs.Sound.{faultOf, unsoundAt}
 use Rattle.strict.proofs.lists.first_unsound_index.Statement.{statement}
 use Rattle.strict.proofs.lists.first_unsound_index.Tie as tie
@@ -31,16 +28,12 @@ rect-at-requires c κs = search needs
 fault-of-requires : tie.Need-fault-of-requires Inv-loop μ-loop
 fault-of-requires c κs = search needs
 
--- the fault that was found is that of rectangle i of the list
-its-fault : (c : tie.After-fault-of Inv-loop μ-loop) → c .fault-of .result
-    ≡ faultOf (c .before .before .before .before .before .args .size) (rectAtOf (now (c .before .before .before .before .before .args .rects)) (c .before .before .before .loop .i))
-its-fault c = c .fault-of .ensures ∙ ap (faultOf _) (c .before .rect-at .ensures)
-
 returns : tie.Need-returns Inv-loop μ-loop
 unfolding unsoundAt
 returns c =
     let l = c .before .before .before .before in
-    sym (first-at _ _ (l .loop .i) (omega arith) (l .loop .inv .2) (ap not (ne-eqb _ 0 (λ e. c .if1 .taken (its-fault (c .before) ∙ e)))))
+    let fault = c .before .fault-of .ensures ∙ ap (faultOf _) (c .before .before .rect-at .ensures) in
+    sym (first-at _ _ (l .loop .i) (omega arith) (l .loop .inv .2) (ap not (ne-eqb _ 0 (λ e. c .if1 .taken (fault ∙ e)))))
 
 add-i : tie.Need-add-i Inv-loop μ-loop
 add-i c = search needs
@@ -52,7 +45,8 @@ loop-again : tie.Need-loop-again Inv-loop μ-loop
 unfolding unsoundAt
 loop-again c =
     let l = c .before .before .before .before in
-    (omega arith, refl, passed-more _ (l .loop .i) (l .loop .inv .2) (ap not (eq-eqb _ 0 (sym (its-fault (c .before)) ∙ c .if1 .left))))
+    let fault = c .before .fault-of .ensures ∙ ap (faultOf _) (c .before .before .rect-at .ensures) in
+    (omega arith, refl, passed-more _ (l .loop .i) (l .loop .inv .2) (ap not (eq-eqb _ 0 (sym fault ∙ c .if1 .left))))
 
 returns-2 : tie.Need-returns-2 Inv-loop μ-loop
 returns-2 c =
