@@ -1,7 +1,6 @@
 -- `strict::apply_auxiliary_view_strict` meets its contract: a number that is not 0 is answered with nothing run; else the clipping call is run, whose
 -- number is the same.
 -- Assumes nothing.
-use borrow.Author.Needs.{needs}
 use mathlib.Core.Path.{_≡_, sym, _∙_}
 use denote.Ref.{now}
 use Rattle.strict.specs.Calls.{lentStrictNumberOf}
@@ -14,7 +13,7 @@ abbrev start : tie.After-strict-number → tie.Start
 start c = c .before .before .before .before .before .before .before .before .before
 
 strict-number-requires : tie.Need-strict-number-requires
-strict-number-requires c κs = search needs
+strict-number-requires c κs = tt
 
 returns : tie.Need-returns
 returns c =
@@ -22,7 +21,7 @@ returns c =
     auxiliary-refused (a .size) (a .w) (now (a .rects)) (now (a .vy)) (now (a .vu)) (now (a .vv)) (now (a .y)) (now (a .u)) (now (a .v)) (now (a .map)) (a .layout) (c .before .strict-number .ensures) (c .if1 .taken)
 
 apply-auxiliary-view-requires : tie.Need-apply-auxiliary-view-requires
-apply-auxiliary-view-requires c κs = search needs
+apply-auxiliary-view-requires c κs = tt
 
 -- the clipping call, seen from the return, and the test of the number, seen from the call
 abbrev call : tie.After-slice-known8 → tie.After-apply-auxiliary-view
@@ -32,16 +31,16 @@ abbrev tested : tie.After-apply-auxiliary-view → tie.Else1
 tested k = k .before .before .before .before .before
 
 same-length : tie.Need-same-length
-same-length c = search needs
+same-length c = call c .apply-auxiliary-view .kept .1 .1 .0
 
 same-length-2 : tie.Need-same-length-2
-same-length-2 c = search needs
+same-length-2 c = call c .apply-auxiliary-view .kept .1 .1 .1 .0
 
 same-length-3 : tie.Need-same-length-3
-same-length-3 c = search needs
+same-length-3 c = call c .apply-auxiliary-view .kept .1 .1 .1 .1 .0
 
 same-length-4 : tie.Need-same-length-4
-same-length-4 c = search needs
+same-length-4 c = call c .apply-auxiliary-view .kept .1 .1 .1 .1 .1 .0
 
 -- where the call is run the number is 0
 number-0 : (t : tie.Else1) → let a = start (t .before) .args in
