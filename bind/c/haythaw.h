@@ -25,6 +25,9 @@
  *             the last row, reach no answer.
  *   list      `rects`: rectangles, four numbers each: left, top, right, bottom. Right and bottom are the first column and row
  *             outside. They may be empty, reversed, off the picture, repeated and in any order.
+ *   sound     a rectangle that lies in the picture and is not empty: left is below right, top below bottom, right at most the width
+ *             and bottom at most the height. A list is sound if all its rectangles are; so an empty list is. Only the calls _strict
+ *             ask for it.
  *   widened   a rectangle with left and top rounded down to even, and right (at most the width) and bottom (at most the
  *             height) rounded up to even: the 2x2 blocks that it touches. An empty rectangle may widen to something:
  *             (5, 0, 5, 4) takes chroma columns 4 and 5.
@@ -53,9 +56,11 @@
 
 /* The version of this header and of the library that goes with it. 0.1 is what had no version: its pictures had no map. 0.2: a picture's
  * map follows v in haythaw_new, haythaw_from_rgba, haythaw_from_rgba_rust, haythaw_to_rgba and the five apply calls, haythaw_pixels
- * ends in `stale`, and there is haythaw_map_size. A program that was built for one of them does not work with the other. */
+ * ends in `stale`, and there is haythaw_map_size. A program that was built for one of them does not work with the other. 0.3: there are
+ * the five strict apply calls, haythaw_first_unsound and number 12. All else is as in 0.2, and a program that was built for 0.2 works
+ * with 0.3. */
 #define HAYTHAW_VERSION_MAJOR 0
-#define HAYTHAW_VERSION_MINOR 2
+#define HAYTHAW_VERSION_MINOR 3
 #define HAYTHAW_VERSION_PATCH 0
 
 #ifdef __cplusplus
@@ -77,7 +82,8 @@ enum haythaw_number {
     HAYTHAW_KIND_UNKNOWN = 8,  /* an AVC444 payload is of kind 3, or is to be written with a kind above 2 */
     HAYTHAW_PAYLOAD_SHORT = 9, /* an AVC444 payload is below 4 bytes, or its size runs past it */
     HAYTHAW_STREAM_SHORT = 10, /* the count, a rectangle or a pair of a stream runs past that stream */
-    HAYTHAW_STREAM_LONG = 11   /* a payload's first stream would be 2^30 bytes or longer, or a count would not fit in 32 bits */
+    HAYTHAW_STREAM_LONG = 11,  /* a payload's first stream would be 2^30 bytes or longer, or a count would not fit in 32 bits */
+    HAYTHAW_RECT_UNSOUND = 12  /* a rectangle of a strict call's list is not sound */
 };
 
 /* A number and how many elements were written: bytes or, where the output is of uint16_t, numbers of 16 bits. In a refusal the
@@ -97,6 +103,16 @@ typedef struct haythaw_pixels {
     size_t filtered_v;
     size_t stale;
 } haythaw_pixels;
+
+/* The first rectangle of a list that is not sound: its index, counted from 0, and its first fault of these four: 1 left is not below
+ * right, 2 top is not below bottom, 3 right is above the width, 4 bottom is above the height. A list without one is no refusal: number
+ * 0, not present, fault and index 0. In a refusal present is false, fault and index are 0. It stands for a count that is always 0. */
+typedef struct haythaw_unsound {
+    uint32_t number;
+    bool present;
+    uint8_t fault;
+    size_t index;
+} haythaw_unsound;
 
 /* Where a row of a view is, in the caller's own plane: `length` bytes from `start` on. A row that the view does not have is no
  * refusal: number 0, not present, start and length 0. A present row of a view of width 0 has length 0. In a refusal present is
@@ -263,6 +279,65 @@ uint32_t haythaw_apply_auxiliary_v2_exact(uint16_t width, uint16_t height, uint8
                                           size_t luma_stride, size_t chroma_stride, const uint8_t *view_y, size_t view_y_count,
                                           const uint8_t *view_u, size_t view_u_count,
                                           const uint8_t *view_v, size_t view_v_count);
+
+/* ---- The same, of a list that has to be sound ----
+ *
+ * The five calls above clip: of a rectangle that is empty, reversed or off the picture they take what its widened area has of the
+ * picture, often nothing, and nobody hears of it. They are for old servers, which send such rectangles and have to be shown all the
+ * same. The five calls _strict refuse such a list, with 12. They are for a server that you want to catch: a rectangle that is off the
+ * picture is its fault, and clipping hides it.
+ *
+ * A list of which any rectangle is unsound is refused whole: its sound ones are not served either, and no byte of y, u, v or map
+ * changes. An empty list is sound, and changes nothing. A rectangle whose right is the width and whose bottom is the height is sound.
+ * What is sound depends on the picture's width and height, never on the view. An accepted call leaves exactly what the call
+ * without _strict leaves, in planes and map.
+ *
+ * All five answer 0, 1, 7, 12, 3 or 4, in this order of refusals. */
+
+/* haythaw_apply_main_view, strict. */
+uint32_t haythaw_apply_main_view_strict(uint16_t width, uint16_t height, uint8_t *y, size_t y_count,
+                                        uint8_t *u, size_t u_count, uint8_t *v, size_t v_count, uint8_t *map, size_t map_count,
+                                        const uint16_t *rects, size_t rects_count, uint16_t view_width, uint16_t view_height,
+                                        size_t luma_stride, size_t chroma_stride, const uint8_t *view_y, size_t view_y_count,
+                                        const uint8_t *view_u, size_t view_u_count, const uint8_t *view_v, size_t view_v_count);
+
+/* haythaw_apply_auxiliary_v1, strict. */
+uint32_t haythaw_apply_auxiliary_v1_strict(uint16_t width, uint16_t height, uint8_t *y, size_t y_count,
+                                           uint8_t *u, size_t u_count, uint8_t *v, size_t v_count, uint8_t *map, size_t map_count,
+                                           const uint16_t *rects, size_t rects_count, uint16_t view_width, uint16_t view_height,
+                                           size_t luma_stride, size_t chroma_stride, const uint8_t *view_y, size_t view_y_count,
+                                           const uint8_t *view_u, size_t view_u_count,
+                                           const uint8_t *view_v, size_t view_v_count);
+
+/* haythaw_apply_auxiliary_v2, by the 16 rule, strict. */
+uint32_t haythaw_apply_auxiliary_v2_strict(uint16_t width, uint16_t height, uint8_t *y, size_t y_count,
+                                           uint8_t *u, size_t u_count, uint8_t *v, size_t v_count, uint8_t *map, size_t map_count,
+                                           const uint16_t *rects, size_t rects_count, uint16_t view_width, uint16_t view_height,
+                                           size_t luma_stride, size_t chroma_stride, const uint8_t *view_y, size_t view_y_count,
+                                           const uint8_t *view_u, size_t view_u_count,
+                                           const uint8_t *view_v, size_t view_v_count);
+
+/* haythaw_apply_auxiliary_v2_32, by the 32 rule, strict. */
+uint32_t haythaw_apply_auxiliary_v2_32_strict(uint16_t width, uint16_t height, uint8_t *y, size_t y_count,
+                                              uint8_t *u, size_t u_count, uint8_t *v, size_t v_count,
+                                              uint8_t *map, size_t map_count, const uint16_t *rects, size_t rects_count,
+                                              uint16_t view_width, uint16_t view_height, size_t luma_stride, size_t chroma_stride,
+                                              const uint8_t *view_y, size_t view_y_count, const uint8_t *view_u,
+                                              size_t view_u_count, const uint8_t *view_v, size_t view_v_count);
+
+/* haythaw_apply_auxiliary_v2_exact, by the rule Exact, strict. */
+uint32_t haythaw_apply_auxiliary_v2_exact_strict(uint16_t width, uint16_t height, uint8_t *y, size_t y_count,
+                                                 uint8_t *u, size_t u_count, uint8_t *v, size_t v_count,
+                                                 uint8_t *map, size_t map_count, const uint16_t *rects, size_t rects_count,
+                                                 uint16_t view_width, uint16_t view_height, size_t luma_stride,
+                                                 size_t chroma_stride, const uint8_t *view_y, size_t view_y_count,
+                                                 const uint8_t *view_u, size_t view_u_count,
+                                                 const uint8_t *view_v, size_t view_v_count);
+
+/* Which rectangle it was, for a log: the first of a list that is not sound in a picture of this size. It looks at the list alone, so it
+ * may be asked after a 12, and beside the calls that clip.
+ * Answers 0 or 7. Writes nothing. */
+haythaw_unsound haythaw_first_unsound(uint16_t width, uint16_t height, const uint16_t *rects, size_t rects_count);
 
 /* ---- A picture into its two views ----
  *

@@ -35,6 +35,12 @@ ALONE(do_aux_v1, haythaw_apply_auxiliary_v1(PICTURE, LENT(RECTS), A_VIEW))
 ALONE(do_aux_v2, haythaw_apply_auxiliary_v2(PICTURE, LENT(RECTS), A_VIEW))
 ALONE(do_aux_v2_32, haythaw_apply_auxiliary_v2_32(PICTURE, LENT(RECTS), A_VIEW))
 ALONE(do_aux_v2_exact, haythaw_apply_auxiliary_v2_exact(PICTURE, LENT(RECTS), A_VIEW))
+ALONE(do_main_strict, haythaw_apply_main_view_strict(PICTURE, LENT(RECTS), A_VIEW))
+ALONE(do_aux_v1_strict, haythaw_apply_auxiliary_v1_strict(PICTURE, LENT(RECTS), A_VIEW))
+ALONE(do_aux_v2_strict, haythaw_apply_auxiliary_v2_strict(PICTURE, LENT(RECTS), A_VIEW))
+ALONE(do_aux_v2_32_strict, haythaw_apply_auxiliary_v2_32_strict(PICTURE, LENT(RECTS), A_VIEW))
+ALONE(do_aux_v2_exact_strict, haythaw_apply_auxiliary_v2_exact_strict(PICTURE, LENT(RECTS), A_VIEW))
+ALONE(do_first_unsound, haythaw_first_unsound(a->width, a->height, LENT(RECTS)))
 ALONE(do_split_v1, haythaw_split_v1(PLANES_ALONE, BOTH_VIEWS))
 ALONE(do_split_v2, haythaw_split_v2(PLANES_ALONE, BOTH_VIEWS))
 ALONE(do_split_v2_32, haythaw_split_v2_32(PLANES_ALONE, BOTH_VIEWS))
@@ -57,7 +63,8 @@ ALONE(do_allocation_size, haythaw_allocation_size(a->width, a->height))
 ALONE(do_map_size, haythaw_map_size(a->width, a->height))
 
 static void (*const alone[CALLS + 2])(const Args *) = {
-    do_new, do_from_rgba, do_from_rgba_rust, do_to_rgba, do_main, do_aux_v1, do_aux_v2, do_aux_v2_32, do_aux_v2_exact, do_split_v1,
+    do_new, do_from_rgba, do_from_rgba_rust, do_to_rgba, do_main, do_aux_v1, do_aux_v2, do_aux_v2_32, do_aux_v2_exact, do_main_strict,
+    do_aux_v1_strict, do_aux_v2_strict, do_aux_v2_32_strict, do_aux_v2_exact_strict, do_first_unsound, do_split_v1,
     do_split_v2, do_split_v2_32, do_view, do_luma_row, do_u_row, do_v_row, do_view_to_rgba, do_is_avc, do_annex_b, do_read, do_luma_rectangle,
     do_chroma_rectangle, do_luma_pair, do_chroma_pair, do_luma_rects, do_chroma_rects, do_write, do_allocation_size, do_map_size};
 
@@ -88,11 +95,11 @@ static void put_u32(uint8_t *bytes, uint32_t number)
         bytes[k] = (uint8_t)(number >> 8 * k);
 }
 
-/* Planes and views are as wide as the 32 rule has them, so that every call finds all that it takes. An AVC444 payload goes with a picture: two streams, each with as many rectangles as the picture has columns, all zero. So does what
+/* Planes and views are as wide as the 32 rule has them, and the list is sound, so that every call finds all that it takes. An AVC444 payload goes with a picture: two streams, each with as many rectangles as the picture has columns, all zero. So does what
  * one is written from, with as many H.264 bytes as a plane has. */
 static Args of_size(uint16_t width, uint16_t height)
 {
-    static const uint16_t rects[8] = {1, 1, 65535, 65535, 0, 0, 7, 7};
+    const uint16_t rects[8] = {1, 1, width, height, 0, 0, 2, 2};
     static uint8_t units[6] = {0, 0, 0, 2, 0x67, 0x42};
     Args a = {0};
     const size_t wide = (width + 31u) / 32 * 32, rows = (height + 15u) / 16 * 16, plane = wide * rows;
@@ -123,7 +130,7 @@ static Args of_size(uint16_t width, uint16_t height)
 int main(void)
 {
     const Args tiny = of_size(2, 2), large = of_size(1920, 1080);
-    printf("%-24s %10s %10s\n", "call, bytes", "2x2", "1920x1080");
+    printf("%-32s %10s %10s\n", "call, bytes", "2x2", "1920x1080");
     for (int call = 0; call <= CALLS + 1; call++) {
         const Args *const sizes[2] = {&tiny, &large};
         size_t most[2];
@@ -133,7 +140,7 @@ int main(void)
             const size_t one = depth((enum call)call, sizes[k], 0xA5), two = depth((enum call)call, sizes[k], 0x3C);
             most[k] = one > two ? one : two;
         }
-        printf("%-24s %10zu %10zu\n", call < CALLS ? call_names[call] : call == CALLS ? "allocation_size" : "map_size", most[0], most[1]);
+        printf("%-32s %10zu %10zu\n", call < CALLS ? call_names[call] : call == CALLS ? "allocation_size" : "map_size", most[0], most[1]);
     }
     return 0;
 }

@@ -12,14 +12,18 @@
 #include "test/off.h"
 #include "test/results.h"
 #include "test/sizes.h"
+#include "test/strict.h"
 #include "test/width.h"
 #include "test/wire.h"
 #include "test/write.h"
 
-/* The two layouts, and V2 once more by the 32 rule, whose views are wider: 37 is 64. */
-static const struct { enum call split, auxiliary; size_t wide; const char *name; } layouts[] = {
-    {SPLIT_V1, AUX_V1, 48, "V1 there and back"}, {SPLIT_V2, AUX_V2, 48, "V2 there and back"},
-    {SPLIT_V2_32, AUX_V2_32, 64, "V2 by the 32 rule there and back"}};
+/* The two layouts, and V2 once more by the 32 rule, whose views are wider: 37 is 64. Then by the strict calls: the list is sound. */
+static const struct { enum call split, main, auxiliary; size_t wide; const char *name; } layouts[] = {
+    {SPLIT_V1, MAIN, AUX_V1, 48, "V1 there and back"}, {SPLIT_V2, MAIN, AUX_V2, 48, "V2 there and back"},
+    {SPLIT_V2_32, MAIN, AUX_V2_32, 64, "V2 by the 32 rule there and back"},
+    {SPLIT_V1, MAIN_STRICT, AUX_V1_STRICT, 48, "V1 there and back, strict"},
+    {SPLIT_V2, MAIN_STRICT, AUX_V2_STRICT, 48, "V2 there and back, strict"},
+    {SPLIT_V2_32, MAIN_STRICT, AUX_V2_32_STRICT, 64, "V2 by the 32 rule there and back, strict"}};
 
 /* A picture of noise is split each way and applied, main then auxiliary, over a rectangle with an odd left edge to a copy of an
  * earlier picture: its luma inside the rectangle, its chroma in the widened one, and nothing else; of the map, the widened one is complete. */
@@ -49,7 +53,7 @@ static void each_layout(void)
                 to.count[VIEW_Y + s] = from.count[(auxiliary ? AUX_Y : MAIN_Y) + s];
             }
             trying = "apply";
-            r = run(auxiliary ? layouts[layout].auxiliary : MAIN, &to);
+            r = run(auxiliary ? layouts[layout].auxiliary : layouts[layout].main, &to);
             check(is_refusal(&r, 0), "apply", "the number");
         }
         bool right[3] = {true, true, true};
@@ -132,6 +136,7 @@ int main(int words, char **word)
         rectangles();
         longest_sides();
         width_rules();
+        strict_lists();
         each_layout();
     }
     printf("c: %lu checks, %lu wrong\n", checks, wrong);

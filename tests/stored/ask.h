@@ -24,7 +24,7 @@ static size_t may_write(enum call call, const Args *a, const Result *r, enum sli
     const size_t plane = up_to(a->width, 16) * up_to(a->height, 16), luma = views_width(call, a) * up_to(a->height, 16);
     if (r->number != 0)
         return 0;
-    switch (call) {
+    switch (clipping(call)) {
     case NEW: case FROM_RGBA: case FROM_RGBA_RUST: case MAIN: return s <= V ? plane : s == MAP ? plane / 4 : 0;
     case AUX_V1: case AUX_V2: case AUX_V2_32: case AUX_V2_EXACT: return s == U || s == V ? plane : s == MAP ? plane / 4 : 0;
     case SPLIT_V1: case SPLIT_V2: case SPLIT_V2_32: return s == MAIN_Y || s == AUX_Y ? luma : s > MAIN_Y && s <= AUX_V ? luma / 4 : 0;
@@ -36,7 +36,7 @@ static size_t may_write(enum call call, const Args *a, const Result *r, enum sli
 
 static bool has_present(enum call call)
 {
-    return (call >= LUMA_ROW && call <= V_ROW) || (call >= LUMA_RECTANGLE && call <= CHROMA_PAIR);
+    return (call >= LUMA_ROW && call <= V_ROW) || (call >= LUMA_RECTANGLE && call <= CHROMA_PAIR) || call == FIRST_UNSOUND;
 }
 
 /* The answer of a split, from its picture's size. */
@@ -63,7 +63,8 @@ static const Field *fields_of(int call)
         views[MOST_FIELDS + 1] = {FIELD(number), FIELD(width), FIELD(height), FIELD(luma_stride), FIELD(chroma_stride)},
         avc444[MOST_FIELDS + 1] = {FIELD(number), FIELD(kind), STREAM(luma), STREAM(chroma)},
         rectangle[MOST_FIELDS + 1] = {FIELD(number), FIELD(present), FIELD(left), FIELD(top), FIELD(right), FIELD(bottom)},
-        pair[MOST_FIELDS + 1] = {FIELD(number), FIELD(present), FIELD(value), FIELD(reserved), FIELD(progressive), FIELD(quality)};
+        pair[MOST_FIELDS + 1] = {FIELD(number), FIELD(present), FIELD(value), FIELD(reserved), FIELD(progressive), FIELD(quality)},
+        unsound[MOST_FIELDS + 1] = {FIELD(number), FIELD(present), FIELD(fault), FIELD(index)};
     switch (call) {
     case ALLOCATION_SIZE: return size;
     case IS_AVC: return yes;
@@ -74,6 +75,7 @@ static const Field *fields_of(int call)
     case READ: return avc444;
     case LUMA_RECTANGLE: case CHROMA_RECTANGLE: return rectangle;
     case LUMA_PAIR: case CHROMA_PAIR: return pair;
+    case FIRST_UNSOUND: return unsound;
     default: return number;
     }
 }

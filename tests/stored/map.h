@@ -60,20 +60,21 @@ static uint8_t marked(enum call call, const Args *a, size_t row, size_t col, uin
     return before == 1 && places == 3 ? 2 : before;
 }
 
-/* What the byte of a block is to be after a call: the block whose first place is at this row and column. */
+/* What the byte of a block is to be after a call: the block whose first place is at this row and column. A strict call that is done does what
+ * the call does that clips. */
 static uint8_t state_after(enum call call, const Args *a, size_t row, size_t col, uint8_t before)
 {
     switch (call) {
     case NEW: return 0;
     case FROM_RGBA: case FROM_RGBA_RUST: return 2;
     case TO_RGBA: return before;
-    default: return marked(call, a, row, col, before);
+    default: return marked(clipping(call), a, row, col, before);
     }
 }
 
 static bool takes_map(enum call call)
 {
-    return call <= AUX_V2_EXACT;
+    return call <= AUX_V2_EXACT_STRICT;
 }
 
 /* What a lent buffer held before the call. */

@@ -6,13 +6,16 @@
 #include "../haythaw.h"
 
 enum call {
-    NEW, FROM_RGBA, FROM_RGBA_RUST, TO_RGBA, MAIN, AUX_V1, AUX_V2, AUX_V2_32, AUX_V2_EXACT, SPLIT_V1, SPLIT_V2, SPLIT_V2_32, VIEW,
+    NEW, FROM_RGBA, FROM_RGBA_RUST, TO_RGBA, MAIN, AUX_V1, AUX_V2, AUX_V2_32, AUX_V2_EXACT, MAIN_STRICT, AUX_V1_STRICT, AUX_V2_STRICT,
+    AUX_V2_32_STRICT, AUX_V2_EXACT_STRICT, FIRST_UNSOUND, SPLIT_V1, SPLIT_V2, SPLIT_V2_32, VIEW,
     LUMA_ROW, U_ROW, V_ROW, VIEW_TO_RGBA, IS_AVC, ANNEX_B, READ, LUMA_RECTANGLE, CHROMA_RECTANGLE, LUMA_PAIR, CHROMA_PAIR, LUMA_RECTS, CHROMA_RECTS,
     WRITE, CALLS
 };
 static const char *const call_names[CALLS] = {
     "new", "from_rgba", "from_rgba_rust", "to_rgba", "apply_main_view", "apply_auxiliary_v1", "apply_auxiliary_v2",
-    "apply_auxiliary_v2_32", "apply_auxiliary_v2_exact", "split_v1", "split_v2", "split_v2_32", "view", "luma_row", "u_row", "v_row", "view_to_rgba",
+    "apply_auxiliary_v2_32", "apply_auxiliary_v2_exact", "apply_main_view_strict", "apply_auxiliary_v1_strict", "apply_auxiliary_v2_strict",
+    "apply_auxiliary_v2_32_strict", "apply_auxiliary_v2_exact_strict", "first_unsound",
+    "split_v1", "split_v2", "split_v2_32", "view", "luma_row", "u_row", "v_row", "view_to_rgba",
     "is_avc_format", "avc_to_annex_b", "avc444_read", "avc444_luma_rectangle", "avc444_chroma_rectangle", "avc444_luma_pair",
     "avc444_chroma_pair", "avc444_luma_rects", "avc444_chroma_rects", "avc444_write"};
 
@@ -49,6 +52,8 @@ typedef struct {
     uint16_t left, top, right, bottom;
     uint8_t value, quality;
     bool reserved, progressive;
+    uint8_t fault;
+    size_t index;
 } Result;
 
 #define LENT(slice) a->at[slice], a->count[slice]
@@ -133,6 +138,15 @@ static Result of_pair(haythaw_pair pair)
     return r;
 }
 
+static Result of_unsound(haythaw_unsound unsound)
+{
+    Result r = of_number(unsound.number);
+    r.present = unsound.present;
+    r.fault = unsound.fault;
+    r.index = unsound.index;
+    return r;
+}
+
 static Result of_bool(bool yes)
 {
     Result r = of_number(0);
@@ -152,6 +166,12 @@ static Result run(enum call call, const Args *a)
     case AUX_V2: return of_number(haythaw_apply_auxiliary_v2(PICTURE, LENT(RECTS), A_VIEW));
     case AUX_V2_32: return of_number(haythaw_apply_auxiliary_v2_32(PICTURE, LENT(RECTS), A_VIEW));
     case AUX_V2_EXACT: return of_number(haythaw_apply_auxiliary_v2_exact(PICTURE, LENT(RECTS), A_VIEW));
+    case MAIN_STRICT: return of_number(haythaw_apply_main_view_strict(PICTURE, LENT(RECTS), A_VIEW));
+    case AUX_V1_STRICT: return of_number(haythaw_apply_auxiliary_v1_strict(PICTURE, LENT(RECTS), A_VIEW));
+    case AUX_V2_STRICT: return of_number(haythaw_apply_auxiliary_v2_strict(PICTURE, LENT(RECTS), A_VIEW));
+    case AUX_V2_32_STRICT: return of_number(haythaw_apply_auxiliary_v2_32_strict(PICTURE, LENT(RECTS), A_VIEW));
+    case AUX_V2_EXACT_STRICT: return of_number(haythaw_apply_auxiliary_v2_exact_strict(PICTURE, LENT(RECTS), A_VIEW));
+    case FIRST_UNSOUND: return of_unsound(haythaw_first_unsound(a->width, a->height, LENT(RECTS)));
     case SPLIT_V1: return of_views(haythaw_split_v1(PLANES_ALONE, BOTH_VIEWS));
     case SPLIT_V2: return of_views(haythaw_split_v2(PLANES_ALONE, BOTH_VIEWS));
     case SPLIT_V2_32: return of_views(haythaw_split_v2_32(PLANES_ALONE, BOTH_VIEWS));

@@ -34,6 +34,17 @@ static void trap(void)
         signal(traps[k], trapped);
 }
 
+static bool is_strict(enum call call)
+{
+    return call >= MAIN_STRICT && call <= AUX_V2_EXACT_STRICT;
+}
+
+/* The call that clips, of a strict one; any other call itself. */
+static enum call clipping(enum call call)
+{
+    return is_strict(call) ? (enum call)(call - MAIN_STRICT + MAIN) : call;
+}
+
 static Result tried(enum call call, const Args *a)
 {
     trying = call_names[call];
@@ -59,7 +70,7 @@ static bool is_refusal(const Result *r, uint32_t number)
     return r->number == number && !r->present && !r->yes && r->count == 0 && r->filtered_u == 0 && r->filtered_v == 0 && r->stale == 0 && r->start == 0 &&
            r->length == 0 && r->width == 0 && r->height == 0 && r->luma_stride == 0 && r->chroma_stride == 0 && r->kind == 0 &&
            same_stream(&r->luma, &none) && same_stream(&r->chroma, &none) && r->left == 0 && r->top == 0 && r->right == 0 &&
-           r->bottom == 0 && r->value == 0 && r->quality == 0 && !r->reserved && !r->progressive;
+           r->bottom == 0 && r->value == 0 && r->quality == 0 && !r->reserved && !r->progressive && r->fault == 0 && r->index == 0;
 }
 
 static bool all_are(const uint8_t *bytes, size_t count, uint8_t value)

@@ -7,7 +7,8 @@
 /* What a call needs in the case below, in its order of refusals: the exact count of each slice, and its number one short and empty.
  *
  * The picture is 17x3: stride 32, rows 16, planes of 512 bytes, a map of 16 x 8, 17 x 3 x 4 = 204 bytes of RGBA, chroma of its views 16 x 8. The
- * rectangle of to_rgba is (1, 1, 17, 3): 16 x 2 x 4 = 128. The view is 5x3 with strides 7 and 4: 7 x 3, 4 x 2, RGBA 5 x 3 x 4. */
+ * rectangle of to_rgba is (1, 1, 17, 3): 16 x 2 x 4 = 128. The view is 5x3 with strides 7 and 4: 7 x 3, 4 x 2, RGBA 5 x 3 x 4. The
+ * rectangles of the list are sound. */
 typedef struct {
     enum slice slice;
     size_t exact;
@@ -33,6 +34,12 @@ static const struct { size_t used; Need needs[9]; } needs[CALLS] = {
     [AUX_V2] = {8, {THE_PICTURE, {RECTS, 4, 7, 0}, THE_VIEW}},
     [AUX_V2_32] = {8, {THE_PICTURE, {RECTS, 4, 7, 0}, THE_VIEW}},
     [AUX_V2_EXACT] = {8, {THE_PICTURE, {RECTS, 4, 7, 0}, THE_VIEW}},
+    [MAIN_STRICT] = {8, {THE_PICTURE, {RECTS, 4, 7, 0}, THE_VIEW}},
+    [AUX_V1_STRICT] = {8, {THE_PICTURE, {RECTS, 4, 7, 0}, THE_VIEW}},
+    [AUX_V2_STRICT] = {8, {THE_PICTURE, {RECTS, 4, 7, 0}, THE_VIEW}},
+    [AUX_V2_32_STRICT] = {8, {THE_PICTURE, {RECTS, 4, 7, 0}, THE_VIEW}},
+    [AUX_V2_EXACT_STRICT] = {8, {THE_PICTURE, {RECTS, 4, 7, 0}, THE_VIEW}},
+    [FIRST_UNSOUND] = {1, {{RECTS, 4, 7, 0}}},
     [SPLIT_V1] = {9, {PLANES, THE_VIEWS}},
     [SPLIT_V2] = {9, {PLANES, THE_VIEWS}},
     [SPLIT_V2_32] = {9, {PLANES, THE_VIEWS}},

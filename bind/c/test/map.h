@@ -153,7 +153,7 @@ static void stale_by_hand(void)
 /* 1 comes before 7, for a short map too; and after 2. */
 static void short_maps_by_hand(void)
 {
-    for (int call = NEW; call <= AUX_V2_EXACT; call++) {
+    for (int call = NEW; call <= AUX_V2_EXACT_STRICT; call++) {
         Args a = {0};
         picture(&a, 16, 16, 256);
         view(&a, 16, 16, 15, 7);

@@ -128,87 +128,136 @@ static void result_of_picture(void)
     check(shown.number == HAYTHAW_DONE && shown.filtered_v == 1 && shown.stale == 2, "to_rgba", "what is stale");
 }
 
+/* An apply call: the five that clip and the five that are strict have the same parameters. */
+typedef uint32_t Applying(uint16_t, uint16_t, uint8_t *, size_t, uint8_t *, size_t, uint8_t *, size_t, uint8_t *, size_t, const uint16_t *,
+                          size_t, uint16_t, uint16_t, size_t, size_t, const uint8_t *, size_t, const uint8_t *, size_t, const uint8_t *, size_t);
+
 /* A view of 1 by 1 goes into a picture of 2 by 1, and to RGBA. */
-static void result_of_main_view(void)
+static void result_of_main_view(Applying *apply, const char *name)
 {
-    static uint8_t y[256], u[256], v[256], map[64];
+    uint8_t y[256] = {0}, u[256] = {0}, v[256] = {0}, map[64] = {0};
     const uint8_t view_y[1] = {53}, view_u[1] = {99}, view_v[1] = {255}, pixel[4] = {252, 0, 0, 255};
     const uint16_t rects[4] = {0, 0, 2, 1};
-    check(haythaw_apply_main_view(2, 1, y, 256, u, 256, v, 256, map, 64, rects, 3, 1, 1, 1, 1, view_y, 1, view_u, 1, view_v, 1) ==
-              HAYTHAW_LIST_UNEVEN,
-          "apply_main_view", "a refusal");
-    check(haythaw_apply_main_view(2, 1, y, 256, u, 256, v, 256, map, 64, rects, 4, 1, 1, 1, 1, view_y, 1, view_u, 1, view_v, 1) == HAYTHAW_DONE,
-          "apply_main_view", "a number");
-    check(y[0] == 53 && y[1] == 0 && u[0] == 99 && u[1] == 0 && u[16] == 0 && v[0] == 255, "apply_main_view", "a picture");
-    check(map[0] == 1 && map[1] == 0, "apply_main_view", "a map");
+    check(apply(2, 1, y, 256, u, 256, v, 256, map, 64, rects, 3, 1, 1, 1, 1, view_y, 1, view_u, 1, view_v, 1) == HAYTHAW_LIST_UNEVEN,
+          name, "a refusal");
+    check(apply(2, 1, y, 256, u, 256, v, 256, map, 64, rects, 4, 1, 1, 1, 1, view_y, 1, view_u, 1, view_v, 1) == HAYTHAW_DONE, name, "a number");
+    check(y[0] == 53 && y[1] == 0 && u[0] == 99 && u[1] == 0 && u[16] == 0 && v[0] == 255, name, "a picture");
+    check(map[0] == 1 && map[1] == 0, name, "a map");
 
     uint8_t out[4] = {0};
     haythaw_answer answer = haythaw_view_to_rgba(1, 1, 1, 1, view_y, 1, view_u, 1, view_v, 1, out, 4);
     check(answer.number == HAYTHAW_DONE && answer.count == 4 && memcmp(out, pixel, 4) == 0, "view_to_rgba", "an answer");
 }
 
-/* Views in which U of an odd column, V of an odd column and so on are each a number of their own go into a picture of 2 by 2. */
-static void result_of_auxiliary_views(void)
-{
-    static uint8_t y[256], u[256], v[256], map[64];
-    const uint16_t rects[4] = {0, 0, 2, 2};
-    memset(map, 1, 64);
+/* Views in which U of an odd column, V of an odd column and so on are each a number of their own go into a picture of 2 by 2. What is left
+ * of them: the three other places of its block, and no Y. */
+typedef struct { uint8_t y[256], u[256], v[256], map[64]; } Two;
+static const uint16_t two_by_two[4] = {0, 0, 2, 2};
 
-    /* V1: the odd row comes from luma rows 0 and 8 of a view of 2 by 9. */
+static void is_left(const Two *p, const uint8_t u[3], const uint8_t v[3], const char *name)
+{
+    check(p->u[0] == 0 && p->u[1] == u[0] && p->u[16] == u[1] && p->u[17] == u[2] && p->u[18] == 0, name, "U");
+    check(p->v[0] == 0 && p->v[1] == v[0] && p->v[16] == v[1] && p->v[17] == v[2] && p->v[18] == 0, name, "V");
+    check(p->map[0] == 2 && p->map[1] == 1, name, "a map");
+    check(p->y[0] == 0 && p->y[16] == 0, name, "no Y");
+}
+
+/* V1: the odd row comes from luma rows 0 and 8 of a view of 2 by 9. */
+static void result_of_v1(Applying *apply, const char *name)
+{
+    Two p = {{0}, {0}, {0}, {1, 1}};
     uint8_t rows[18] = {11, 12};
     rows[16] = 21;
     rows[17] = 22;
     const uint8_t odd_u[5] = {13}, odd_v[5] = {23};
-    check(haythaw_apply_auxiliary_v1(2, 2, y, 256, u, 256, v, 255, map, 64, rects, 4, 2, 9, 2, 1, rows, 18, odd_u, 5, odd_v, 5) ==
-              HAYTHAW_PLANE_SHORT,
-          "apply_auxiliary_v1", "a refusal");
-    check(haythaw_apply_auxiliary_v1(2, 2, y, 256, u, 256, v, 256, map, 64, rects, 4, 2, 9, 2, 1, rows, 18, odd_u, 5, odd_v, 5) == HAYTHAW_DONE,
-          "apply_auxiliary_v1", "a number");
-    check(u[0] == 0 && u[1] == 13 && u[16] == 11 && u[17] == 12 && u[18] == 0, "apply_auxiliary_v1", "U");
-    check(v[0] == 0 && v[1] == 23 && v[16] == 21 && v[17] == 22 && v[18] == 0, "apply_auxiliary_v1", "V");
-    check(map[0] == 2 && map[1] == 1, "apply_auxiliary_v1", "a map");
-    map[0] = 1;
+    check(apply(2, 2, p.y, 256, p.u, 256, p.v, 255, p.map, 64, two_by_two, 4, 2, 9, 2, 1, rows, 18, odd_u, 5, odd_v, 5) == HAYTHAW_PLANE_SHORT,
+          name, "a refusal");
+    check(apply(2, 2, p.y, 256, p.u, 256, p.v, 256, p.map, 64, two_by_two, 4, 2, 9, 2, 1, rows, 18, odd_u, 5, odd_v, 5) == HAYTHAW_DONE,
+          name, "a number");
+    is_left(&p, (const uint8_t[]){13, 11, 12}, (const uint8_t[]){23, 21, 22}, name);
+}
 
-    /* V2: in a view of 9 by 2, which counts as 16 wide, V stands 8 columns after U in luma and 4 in chroma. */
+/* V2: in a view of 9 by 2, which counts as 16 wide, V stands 8 columns after U in luma and 4 in chroma. */
+static void result_of_v2(Applying *apply, const char *name)
+{
+    Two p = {{0}, {0}, {0}, {1, 1}};
     const uint8_t columns[18] = {31, 0, 0, 0, 0, 0, 0, 0, 41, 32, 0, 0, 0, 0, 0, 0, 0, 42};
     const uint8_t fourths_u[5] = {33, 0, 0, 0, 43}, fourths_v[5] = {0};
-    check(haythaw_apply_auxiliary_v2(2, 2, y, 256, u, 256, v, 256, map, 64, rects, 4, 9, 2, 9, 5, columns, 18, fourths_u, 4, fourths_v, 5) ==
+    check(apply(2, 2, p.y, 256, p.u, 256, p.v, 256, p.map, 64, two_by_two, 4, 9, 2, 9, 5, columns, 18, fourths_u, 4, fourths_v, 5) ==
               HAYTHAW_VIEW_SHORT,
-          "apply_auxiliary_v2", "a refusal");
-    check(haythaw_apply_auxiliary_v2(2, 2, y, 256, u, 256, v, 256, map, 64, rects, 4, 9, 2, 9, 5, columns, 18, fourths_u, 5, fourths_v, 5) ==
-              HAYTHAW_DONE,
-          "apply_auxiliary_v2", "a number");
-    check(u[0] == 0 && u[1] == 31 && u[16] == 33 && u[17] == 32 && u[18] == 0, "apply_auxiliary_v2", "U");
-    check(v[0] == 0 && v[1] == 41 && v[16] == 43 && v[17] == 42 && v[18] == 0, "apply_auxiliary_v2", "V");
-    check(map[0] == 2 && map[1] == 1, "apply_auxiliary_v2", "a map");
-    map[0] = 1;
+          name, "a refusal");
+    check(apply(2, 2, p.y, 256, p.u, 256, p.v, 256, p.map, 64, two_by_two, 4, 9, 2, 9, 5, columns, 18, fourths_u, 5, fourths_v, 5) == HAYTHAW_DONE,
+          name, "a number");
+    is_left(&p, (const uint8_t[]){31, 33, 32}, (const uint8_t[]){41, 43, 42}, name);
+}
 
-    /* V2 by the 32 rule: a picture of 2 counts as 32 wide, so V stands 16 columns after U in luma and 8 in chroma, of a view of 17 by 2. */
+/* V2 by the 32 rule: a picture of 2 counts as 32 wide, so V stands 16 columns after U in luma and 8 in chroma, of a view of 17 by 2. */
+static void result_of_v2_32(Applying *apply, const char *name)
+{
+    Two p = {{0}, {0}, {0}, {1, 1}};
     const uint8_t wide[34] = {51, 0, 0, 0, 0, 0, 0, 0, 0, 0, 0, 0, 0, 0, 0, 0, 61, 52, 0, 0, 0, 0, 0, 0, 0, 0, 0, 0, 0, 0, 0, 0, 0, 62};
     const uint8_t wide_u[9] = {53, 0, 0, 0, 0, 0, 0, 0, 63}, wide_v[9] = {0};
-    check(haythaw_apply_auxiliary_v2_32(2, 2, y, 256, u, 256, v, 256, map, 64, rects, 4, 17, 2, 17, 8, wide, 34, wide_u, 9, wide_v, 9) ==
-              HAYTHAW_VIEW_NARROW,
-          "apply_auxiliary_v2_32", "a refusal");
-    check(haythaw_apply_auxiliary_v2_32(2, 2, y, 256, u, 256, v, 256, map, 64, rects, 4, 17, 2, 17, 9, wide, 34, wide_u, 9, wide_v, 9) ==
-              HAYTHAW_DONE,
-          "apply_auxiliary_v2_32", "a number");
-    check(u[0] == 0 && u[1] == 51 && u[16] == 53 && u[17] == 52 && u[18] == 0, "apply_auxiliary_v2_32", "U");
-    check(v[0] == 0 && v[1] == 61 && v[16] == 63 && v[17] == 62 && v[18] == 0, "apply_auxiliary_v2_32", "V");
-    check(map[0] == 2 && map[1] == 1, "apply_auxiliary_v2_32", "a map");
-    map[0] = 1;
-    /* V2 by the rule Exact: a picture of 2 is 2 wide, so V stands a column after U in luma, and both stand in one place in chroma. */
+    check(apply(2, 2, p.y, 256, p.u, 256, p.v, 256, p.map, 64, two_by_two, 4, 17, 2, 17, 8, wide, 34, wide_u, 9, wide_v, 9) == HAYTHAW_VIEW_NARROW,
+          name, "a refusal");
+    check(apply(2, 2, p.y, 256, p.u, 256, p.v, 256, p.map, 64, two_by_two, 4, 17, 2, 17, 9, wide, 34, wide_u, 9, wide_v, 9) == HAYTHAW_DONE,
+          name, "a number");
+    is_left(&p, (const uint8_t[]){51, 53, 52}, (const uint8_t[]){61, 63, 62}, name);
+}
+
+/* V2 by the rule Exact: a picture of 2 is 2 wide, so V stands a column after U in luma, and both stand in one place in chroma. */
+static void result_of_v2_exact(Applying *apply, const char *name)
+{
+    Two p = {{0}, {0}, {0}, {1, 1}};
     const uint8_t own[4] = {71, 81, 72, 82}, own_u[1] = {73}, own_v[1] = {0};
-    check(haythaw_apply_auxiliary_v2_exact(2, 2, y, 256, u, 256, v, 256, map, 64, rects, 3, 2, 2, 2, 1, own, 4, own_u, 1, own_v, 1) ==
-              HAYTHAW_LIST_UNEVEN,
-          "apply_auxiliary_v2_exact", "a refusal");
-    check(haythaw_apply_auxiliary_v2_exact(2, 2, y, 256, u, 256, v, 256, map, 64, rects, 4, 2, 2, 2, 1, own, 4, own_u, 1, own_v, 1) ==
-              HAYTHAW_DONE,
-          "apply_auxiliary_v2_exact", "a number");
-    check(u[0] == 0 && u[1] == 71 && u[16] == 73 && u[17] == 72 && u[18] == 0, "apply_auxiliary_v2_exact", "U");
-    check(v[0] == 0 && v[1] == 81 && v[16] == 73 && v[17] == 82 && v[18] == 0, "apply_auxiliary_v2_exact", "V");
-    check(map[0] == 2 && map[1] == 1, "apply_auxiliary_v2_exact", "a map");
-    map[0] = 1;
-    check(y[0] == 0 && y[16] == 0, "the auxiliary views", "no Y");
+    check(apply(2, 2, p.y, 256, p.u, 256, p.v, 256, p.map, 64, two_by_two, 3, 2, 2, 2, 1, own, 4, own_u, 1, own_v, 1) == HAYTHAW_LIST_UNEVEN,
+          name, "a refusal");
+    check(apply(2, 2, p.y, 256, p.u, 256, p.v, 256, p.map, 64, two_by_two, 4, 2, 2, 2, 1, own, 4, own_u, 1, own_v, 1) == HAYTHAW_DONE,
+          name, "a number");
+    is_left(&p, (const uint8_t[]){71, 73, 72}, (const uint8_t[]){81, 73, 82}, name);
+}
+
+/* What the strict calls alone refuse, in a picture of 2 by 2: the second rectangle's right is above the width. A view of 32 by 16 has all that
+ * any of them would take of the first. */
+static void result_of_unsound(Applying *apply, const char *name)
+{
+    Two p = {{0}, {0}, {0}, {1, 1}};
+    const Two before = p;
+    const uint16_t rects[8] = {0, 0, 2, 2, 0, 0, 3, 2};
+    const uint8_t view[512] = {9, 9, 9, 9};
+    check(apply(2, 2, p.y, 256, p.u, 256, p.v, 256, p.map, 64, rects, 8, 32, 16, 32, 16, view, 512, view, 128, view, 128) == HAYTHAW_RECT_UNSOUND,
+          name, "an unsound list");
+    check(memcmp(&p, &before, sizeof p) == 0, name, "an unsound list changed a byte");
+}
+
+static void result_of_first_unsound(void)
+{
+    const uint16_t rects[12] = {0, 0, 2, 3, 1, 2, 2, 3, 0, 1, 2, 4};
+    haythaw_unsound none = haythaw_first_unsound(2, 3, rects, 8), third = haythaw_first_unsound(2, 3, rects, 12);
+    check(none.number == HAYTHAW_DONE && !none.present && none.fault == 0 && none.index == 0, "first_unsound", "none");
+    check(third.number == HAYTHAW_DONE && third.present && third.fault == 4 && third.index == 2, "first_unsound", "the third, for its bottom");
+    haythaw_unsound first = haythaw_first_unsound(1, 3, rects, 12), refused = haythaw_first_unsound(1, 3, rects, 11);
+    check(first.number == HAYTHAW_DONE && first.present && first.fault == 3 && first.index == 0, "first_unsound", "the first, for its right");
+    check(refused.number == HAYTHAW_LIST_UNEVEN && !refused.present && refused.fault == 0 && refused.index == 0, "first_unsound", "a refusal");
+}
+
+static void result_of_views_applied(void)
+{
+    result_of_main_view(haythaw_apply_main_view, "apply_main_view");
+    result_of_v1(haythaw_apply_auxiliary_v1, "apply_auxiliary_v1");
+    result_of_v2(haythaw_apply_auxiliary_v2, "apply_auxiliary_v2");
+    result_of_v2_32(haythaw_apply_auxiliary_v2_32, "apply_auxiliary_v2_32");
+    result_of_v2_exact(haythaw_apply_auxiliary_v2_exact, "apply_auxiliary_v2_exact");
+    result_of_main_view(haythaw_apply_main_view_strict, "apply_main_view_strict");
+    result_of_v1(haythaw_apply_auxiliary_v1_strict, "apply_auxiliary_v1_strict");
+    result_of_v2(haythaw_apply_auxiliary_v2_strict, "apply_auxiliary_v2_strict");
+    result_of_v2_32(haythaw_apply_auxiliary_v2_32_strict, "apply_auxiliary_v2_32_strict");
+    result_of_v2_exact(haythaw_apply_auxiliary_v2_exact_strict, "apply_auxiliary_v2_exact_strict");
+    result_of_unsound(haythaw_apply_main_view_strict, "apply_main_view_strict");
+    result_of_unsound(haythaw_apply_auxiliary_v1_strict, "apply_auxiliary_v1_strict");
+    result_of_unsound(haythaw_apply_auxiliary_v2_strict, "apply_auxiliary_v2_strict");
+    result_of_unsound(haythaw_apply_auxiliary_v2_32_strict, "apply_auxiliary_v2_32_strict");
+    result_of_unsound(haythaw_apply_auxiliary_v2_exact_strict, "apply_auxiliary_v2_exact_strict");
+    result_of_first_unsound();
 }
 
 /* A picture of 2 by 1 is split into views of 16 by 16, and one of 65,521 by 0 into none. */
@@ -274,8 +323,7 @@ static void each_result_type(void)
     result_of_avc444();
     result_of_write();
     result_of_picture();
-    result_of_main_view();
-    result_of_auxiliary_views();
+    result_of_views_applied();
     result_of_split();
     result_of_split_32();
 }

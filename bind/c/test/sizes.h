@@ -38,6 +38,44 @@ static uint32_t view_number(const Args *a)
                ? 4 : 0;
 }
 
+/* The first fault of a rectangle: left not below right, top not below bottom, right above the width, bottom above the height; 0 of a sound one. */
+static uint8_t fault_of(const Args *a, const uint16_t *rect)
+{
+    if (!(rect[0] < rect[2]))
+        return 1;
+    if (!(rect[1] < rect[3]))
+        return 2;
+    return rect[2] > a->width ? 3 : rect[3] > a->height ? 4 : 0;
+}
+
+/* The index of the first unsound rectangle of a list in fours, or how many rectangles it has. */
+static size_t unsound_at(const Args *a)
+{
+    size_t index = 0;
+    while (index < a->count[RECTS] / 4 && fault_of(a, (const uint16_t *)a->at[RECTS] + 4 * index) == 0)
+        index++;
+    return index;
+}
+
+static uint32_t list_number(enum call call, const Args *a)
+{
+    return a->count[RECTS] % 4 != 0 ? 7 : is_strict(call) && unsound_at(a) < a->count[RECTS] / 4 ? 12 : 0;
+}
+
+static uint32_t apply_number(enum call call, const Args *a)
+{
+    return picture_short(a) ? 1 : list_number(call, a) != 0 ? list_number(call, a) : view_number(a);
+}
+
+/* What a list answers that is not refused. */
+static bool first_is(const Args *a, const Result *r)
+{
+    const size_t index = unsound_at(a);
+    const bool present = index < a->count[RECTS] / 4;
+    return r->number == 0 && r->present == present && r->index == (present ? index : 0) &&
+           r->fault == (present ? fault_of(a, (const uint16_t *)a->at[RECTS] + 4 * index) : 0);
+}
+
 /* The views are as wide as the stride or, by the 32 rule, as the width rounded up to 32, which is never less. */
 static uint32_t split_number(enum call call, const Args *a)
 {
@@ -56,7 +94,9 @@ static uint32_t the_number(enum call call, const Args *a)
     case NEW: return picture_short(a) ? 1 : 0;
     case FROM_RGBA: case FROM_RGBA_RUST: return a->count[RGBA] < (size_t)4 * a->width * a->height ? 2 : picture_short(a) ? 1 : 0;
     case TO_RGBA: return picture_short(a) ? 1 : a->count[OUT] < clipped(a) ? 6 : 0;
-    case MAIN: case AUX_V1: case AUX_V2: case AUX_V2_32: case AUX_V2_EXACT: return picture_short(a) ? 1 : a->count[RECTS] % 4 != 0 ? 7 : view_number(a);
+    case MAIN: case AUX_V1: case AUX_V2: case AUX_V2_32: case AUX_V2_EXACT:
+    case MAIN_STRICT: case AUX_V1_STRICT: case AUX_V2_STRICT: case AUX_V2_32_STRICT: case AUX_V2_EXACT_STRICT: return apply_number(call, a);
+    case FIRST_UNSOUND: return list_number(call, a);
     case SPLIT_V1: case SPLIT_V2: case SPLIT_V2_32: return split_number(call, a);
     case VIEW_TO_RGBA:
         return view_number(a) != 0 ? view_number(a) : a->count[OUT] < (size_t)4 * a->view_width * a->view_height ? 6 : 0;
@@ -71,6 +111,8 @@ static void by_table(enum call call, const Args *a, const char *what)
     Result r = tried(call, a);
     if (number != 0)
         check(is_refusal(&r, number) && lent_kept(), call_names[call], what);
+    else if (call == FIRST_UNSOUND)
+        check(first_is(a, &r) && lent_kept(), call_names[call], what);
     else
         check(r.number == 0 && r.count == (call == TO_RGBA ? clipped(a) : call == VIEW_TO_RGBA ? (size_t)4 * a->view_width * a->view_height : 0),
               call_names[call], what);
@@ -105,21 +147,22 @@ static void view_sizes(void)
     static const uint16_t sides[] = {0, 1, 2, 3, 5, 16, 65535};
     static const size_t strides[] = {0, 1, 3, 7, 65535, SIZE_MAX / 2 + 1, 6148914691236517206u, SIZE_MAX - 1, SIZE_MAX};
     enum { SIDES = sizeof sides / sizeof *sides, STRIDES = sizeof strides / sizeof *strides };
-    static const uint16_t rects[8] = {0, 0, 65535, 65535, 3, 1, 5, 2};
-    static const enum call calls[] = {VIEW, LUMA_ROW, U_ROW, V_ROW, VIEW_TO_RGBA, MAIN, AUX_V1, AUX_V2, AUX_V2_32, AUX_V2_EXACT};
+    static const uint16_t rects[8] = {0, 0, 65535, 65535, 3, 1, 5, 2}, sound[8] = {0, 0, 17, 3, 3, 1, 5, 2};
+    static const enum call calls[] = {VIEW, LUMA_ROW, U_ROW, V_ROW, VIEW_TO_RGBA, MAIN, AUX_V1, AUX_V2, AUX_V2_32, AUX_V2_EXACT,
+                                      MAIN_STRICT, AUX_V1_STRICT, AUX_V2_STRICT, AUX_V2_32_STRICT, AUX_V2_EXACT_STRICT};
     Args a = {0};
     picture(&a, 17, 3, 512);
     for (int s = VIEW_Y; s <= OUT; s++)
         lend_as(&a, (enum slice)s, s == OUT ? 1024 : 64, NULL);
     a.at[RECTS] = lend(16);
     a.row = 1;
-    memcpy(a.at[RECTS], rects, 16);
     for (size_t i = 0; i < SIDES * SIDES; i++)
         for (size_t j = 0; j < STRIDES * STRIDES; j++)
             for (size_t c = 0; c < sizeof calls / sizeof *calls; c++) {
                 a.view_width = sides[i / SIDES], a.view_height = sides[i % SIDES];
                 a.luma_stride = strides[j / STRIDES], a.chroma_stride = strides[j % STRIDES];
                 a.count[RECTS] = (i + j) % 7 == 0 ? 5 : 8;
+                memcpy(a.at[RECTS], is_strict(calls[c]) && (i + j) % 5 != 0 ? sound : rects, 16);
                 by_table(calls[c], &a, "a view's size");
             }
     over(VIEW);
@@ -129,7 +172,7 @@ static void view_sizes(void)
 static void list_lengths(void)
 {
     for (size_t count = 0; count < 10; count++)
-        for (int call = MAIN; call <= AUX_V2_EXACT; call++) {
+        for (int call = MAIN; call <= FIRST_UNSOUND; call++) {
             Args a = {0};
             picture(&a, 17, 3, 512);
             view(&a, 5, 3, 7, 4);
@@ -145,7 +188,8 @@ static void rectangles(void)
 {
     static const uint16_t edges[] = {0, 1, 2, 4, 5, 17, 65535};
     enum { EDGES = sizeof edges / sizeof *edges };
-    static const enum call calls[] = {MAIN, AUX_V1, AUX_V2, AUX_V2_32, AUX_V2_EXACT, TO_RGBA};
+    static const enum call calls[] = {MAIN, AUX_V1, AUX_V2, AUX_V2_32, AUX_V2_EXACT, MAIN_STRICT, AUX_V1_STRICT, AUX_V2_STRICT,
+                                      AUX_V2_32_STRICT, AUX_V2_EXACT_STRICT, FIRST_UNSOUND, TO_RGBA};
     Args a = {0};
     picture(&a, 17, 3, 512);
     view(&a, 5, 3, 7, 4);
