@@ -13,7 +13,7 @@ typedef struct {
     const char *name;
     uint16_t width, height;
     size_t planes[4], numbers;
-    uint16_t list[8];
+    uint16_t list[12];
     size_t luma, chroma, view[3];
 } AppliedCase;
 #define EXACT_PLANES {256, 256, 256, 64}

@@ -17,6 +17,7 @@
 #include "refusals_layouts.h"
 #include "refusals_picture.h"
 #include "refusals_split.h"
+#include "refusals_strict.h"
 #include "refusals_wire.h"
 #include "view.h"
 #include "wire.h"
@@ -36,6 +37,7 @@ static const struct { const char *name; void (*lines)(void); unsigned long alter
     {"refusals_picture", refusals_picture, 0},
     {"refusals_layouts", refusals_layouts, 0},
     {"refusals_split", refusals_split, 0},
+    {"refusals_strict", refusals_strict, 0},
     {"agree_run", agree_run, 3},
 };
 
