@@ -6,7 +6,7 @@
 use core::fmt;
 
 use crate::decode::{DecoderError, DecoderResult, Yuv420Frame};
-use crate::geometry::ExclusiveRectangle;
+use crate::geometry::{ExclusiveRectangle, RectangleFault, UnsoundRectangle};
 use crate::library::{self, Size};
 
 /// Where the auxiliary view keeps the chroma that the main view leaves out.
@@ -84,6 +84,9 @@ pub struct PixelCounts {
 
 /// A call of the library that makes a picture of RGBA pixels: 0, 2 or 1.
 type Making = fn(&[u8], Size, [&mut [u8]; 4]) -> u32;
+
+/// A strict call of the library that applies a view: 0, 1, 7, 12, 3 or 4.
+type Applying = fn(Size, [&mut [u8]; 4], &[u16], library::View<'_>) -> u32;
 
 /// A call of the library that splits a picture: 0, 1, 5 or 6.
 type Splitting = fn(Size, [&[u8]; 3], [&mut [u8]; 3], [&mut [u8]; 3]) -> library::Views;
@@ -280,6 +283,151 @@ impl Yuv444Frame {
         library::done("apply_auxiliary_view_v2", apply(size, lent, library::numbers_of(rects), view.lent()));
     }
 
+    /// [`Self::apply_main_view`] for a list of which every rectangle is to be sound, which the original has no call for.
+    ///
+    /// A rectangle is sound where it has a column and a row and lies in the picture; it may end at the width and at the height. The calls
+    /// without `_strict` clip one that is not, and nobody hears of it: they are for old servers. These are for a server that is
+    /// to be caught. An empty list is sound, and a list that is sound does what it does there.
+    ///
+    /// # Errors
+    ///
+    /// The first rectangle that is not sound, if one is. Then the list is refused whole: the picture and its [map](Self::map) are
+    /// as they were.
+    ///
+    /// ```
+    /// use haythaw::avc444::Yuv444Frame;
+    /// use haythaw::decode::Yuv420Frame;
+    /// use haythaw::geometry::{ExclusiveRectangle, RectangleFault};
+    ///
+    /// let red = Yuv420Frame::new(16, 16, vec![53; 256], 16, vec![99; 64], vec![255; 64], 8)?;
+    /// let mut picture = Yuv444Frame::new(5, 5);
+    /// let corner = ExclusiveRectangle { left: 4, top: 4, right: 5, bottom: 5 };
+    /// let off = ExclusiveRectangle { left: 4, top: 4, right: 6, bottom: 5 };
+    ///
+    /// let unsound = picture.apply_main_view_strict(&red, &[corner, off]).unwrap_err();
+    /// assert_eq!((unsound.index, unsound.rectangle, unsound.fault), (1, off, RectangleFault::RightAboveWidth));
+    /// assert_eq!(picture.to_rgba(&corner), [0, 0, 0, 255]);
+    ///
+    /// picture.apply_main_view_strict(&red, &[corner])?;
+    /// assert_eq!(picture.to_rgba(&corner), [252, 0, 0, 255]);
+    /// # Ok::<(), Box<dyn std::error::Error>>(())
+    /// ```
+    pub fn apply_main_view_strict(
+        &mut self,
+        view: &Yuv420Frame,
+        rects: &[ExclusiveRectangle],
+    ) -> Result<(), UnsoundRectangle> {
+        self.apply_strictly("apply_main_view_strict", library::apply_main_view_strict, view, rects)
+    }
+
+    /// [`Self::apply_auxiliary_view`] for a list of which every rectangle is to be sound; see [`Self::apply_main_view_strict`].
+    ///
+    /// # Errors
+    ///
+    /// The first rectangle that is not sound, if one is. Then the list is refused whole: the picture and its [map](Self::map) are
+    /// as they were.
+    ///
+    /// ```
+    /// use haythaw::avc444::{Avc444Layout, Yuv444Frame};
+    /// use haythaw::geometry::ExclusiveRectangle;
+    ///
+    /// let sent = Yuv444Frame::from_rgba(&[255; 4 * 5 * 5], 5, 5).expect("5 x 5 pixels");
+    /// let (main, auxiliary) = sent.split(Avc444Layout::V1)?;
+    /// let mut picture = Yuv444Frame::new(5, 5);
+    /// let whole = ExclusiveRectangle { left: 0, top: 0, right: 5, bottom: 5 };
+    /// picture.apply_main_view_strict(&main, &[whole])?;
+    ///
+    /// let below = ExclusiveRectangle { bottom: 6, ..whole };
+    /// let unsound = picture.apply_auxiliary_view_strict(Avc444Layout::V1, &auxiliary, &[whole, below]).unwrap_err();
+    /// assert_eq!((unsound.index, unsound.rectangle), (1, below));
+    /// assert_eq!(picture.map()[..4], [1, 1, 1, 0]);
+    ///
+    /// picture.apply_auxiliary_view_strict(Avc444Layout::V1, &auxiliary, &[whole])?;
+    /// assert_eq!(picture.map()[..4], [2, 2, 2, 0]);
+    /// # Ok::<(), Box<dyn std::error::Error>>(())
+    /// ```
+    pub fn apply_auxiliary_view_strict(
+        &mut self,
+        layout: Avc444Layout,
+        view: &Yuv420Frame,
+        rects: &[ExclusiveRectangle],
+    ) -> Result<(), UnsoundRectangle> {
+        let apply = match layout {
+            Avc444Layout::V1 => library::apply_auxiliary_v1_strict,
+            Avc444Layout::V2 => library::apply_auxiliary_v2_strict,
+        };
+        self.apply_strictly("apply_auxiliary_view_strict", apply, view, rects)
+    }
+
+    /// [`Self::apply_auxiliary_view_v2`] for a list of which every rectangle is to be sound; see [`Self::apply_main_view_strict`].
+    ///
+    /// What is sound depends on the picture's width, whatever the rule makes of it.
+    ///
+    /// # Errors
+    ///
+    /// The first rectangle that is not sound, if one is. Then the list is refused whole: the picture and its [map](Self::map) are
+    /// as they were.
+    ///
+    /// ```
+    /// use haythaw::avc444::{WidthRule, Yuv444Frame};
+    /// use haythaw::geometry::ExclusiveRectangle;
+    ///
+    /// let sent = Yuv444Frame::from_rgba(&[255; 4 * 48], 48, 1).expect("48 pixels");
+    /// let (main, auxiliary) = sent.split_v2(WidthRule::To32)?;
+    /// let whole = ExclusiveRectangle { left: 0, top: 0, right: 48, bottom: 1 };
+    /// let mut picture = Yuv444Frame::new(48, 1);
+    /// picture.apply_main_view_strict(&main, &[whole])?;
+    /// picture.apply_auxiliary_view_v2_strict(WidthRule::To32, &auxiliary, &[whole])?;
+    /// assert_eq!(picture.to_rgba(&whole), sent.to_rgba(&whole));
+    ///
+    /// // The view is 64 wide, and the picture is not.
+    /// let wide = ExclusiveRectangle { right: 64, ..whole };
+    /// assert!(picture.apply_auxiliary_view_v2_strict(WidthRule::To32, &auxiliary, &[wide]).is_err());
+    /// # Ok::<(), Box<dyn std::error::Error>>(())
+    /// ```
+    pub fn apply_auxiliary_view_v2_strict(
+        &mut self,
+        rule: WidthRule,
+        view: &Yuv420Frame,
+        rects: &[ExclusiveRectangle],
+    ) -> Result<(), UnsoundRectangle> {
+        let apply = match rule {
+            WidthRule::To16 => library::apply_auxiliary_v2_strict,
+            WidthRule::To32 => library::apply_auxiliary_v2_32_strict,
+            WidthRule::Exact => library::apply_auxiliary_v2_exact_strict,
+        };
+        self.apply_strictly("apply_auxiliary_view_v2_strict", apply, view, rects)
+    }
+
+    /// The first rectangle of a list that is not sound in this picture, or `None` where all are.
+    ///
+    /// For a log beside the calls that clip: it applies nothing. The strict calls answer it by themselves.
+    ///
+    /// ```
+    /// use haythaw::avc444::Yuv444Frame;
+    /// use haythaw::geometry::ExclusiveRectangle;
+    ///
+    /// let picture = Yuv444Frame::new(5, 5);
+    /// let whole = ExclusiveRectangle { left: 0, top: 0, right: 5, bottom: 5 };
+    /// assert_eq!(picture.first_unsound(&[whole, whole]), None);
+    /// assert_eq!(picture.first_unsound(&[]), None);
+    ///
+    /// let unsound = picture.first_unsound(&[whole, ExclusiveRectangle { bottom: 6, ..whole }]).expect("the second one");
+    /// assert_eq!(
+    ///     unsound.to_string(),
+    ///     "rectangle 1 of the list, left 0, top 0, right 5, bottom 6: its bottom edge is above the picture's height"
+    /// );
+    /// ```
+    pub fn first_unsound(&self, rects: &[ExclusiveRectangle]) -> Option<UnsoundRectangle> {
+        let found = library::first_unsound(self.lent().0, library::numbers_of(rects));
+        library::done("first_unsound", found.number);
+        found.present.then(|| UnsoundRectangle {
+            index: found.index,
+            rectangle: rects[found.index],
+            fault: RectangleFault::of(found.fault),
+        })
+    }
+
     /// The pixels of `rect`, clipped to the picture, as tightly packed RGBA: the reverse transform of MS-RDPEGFX 3.3.8.3.1 after the
     /// reverse chroma filter of 3.3.8.3.2.
     ///
@@ -388,6 +536,24 @@ impl Yuv444Frame {
             WidthRule::To32 => self.split_by(library::split_v2_32, 32),
             WidthRule::Exact => Err(DecoderError::msg("no picture is split by a width that is not rounded")),
         }
+    }
+
+    /// A view by a strict call of the library, which refuses nothing but a list that is not sound.
+    fn apply_strictly(
+        &mut self,
+        call: &str,
+        apply: Applying,
+        view: &Yuv420Frame,
+        rects: &[ExclusiveRectangle],
+    ) -> Result<(), UnsoundRectangle> {
+        let (size, lent) = self.lent_mut();
+        let number = apply(size, lent, library::numbers_of(rects), view.lent());
+        if number == 12 {
+            let unsound = self.first_unsound(rects);
+            return Err(unsound.expect("haythaw: a list was refused of which every rectangle is sound"));
+        }
+        library::done(call, number);
+        Ok(())
     }
 
     /// Both views by a call of the library that makes them as wide as the width rounded up to `unit`.

@@ -19,6 +19,6 @@ pub use crate::{
         Avc444Payload, PayloadKind, PayloadParts, QuantQuality, ReadError, Stream, StreamParts, WriteError,
     },
     decode::{DecodedFrame, DecoderError, DecoderResult, Yuv420Frame},
-    geometry::ExclusiveRectangle,
+    geometry::{ExclusiveRectangle, RectangleFault, UnsoundRectangle},
     pdu::{avc_to_annex_b_into, is_avc_format},
 };

@@ -72,6 +72,8 @@ macro_rules! applying {
     };
 }
 
+pub(super) use applying;
+
 applying! {
     /// The main view, within the rectangles of a list. 0, 1, 7, 3 or 4.
     apply_main_view is haythaw_apply_main_view;

@@ -13,6 +13,7 @@ mod apply;
 mod avc444;
 mod picture;
 mod split;
+mod strict;
 mod to_rgba;
 mod view;
 
@@ -21,6 +22,7 @@ pub use apply::*;
 pub use avc444::*;
 pub use picture::*;
 pub use split::*;
+pub use strict::*;
 pub use to_rgba::*;
 pub use view::*;
 
