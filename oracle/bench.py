@@ -93,7 +93,8 @@ def main():
         return
     print('\n'.join(dict.fromkeys(said + more)))
     table('A call of ours and of the original', 'original', ('original',), plain, v3)
-    table('The library on one input against another, or against plain copies or sums: a pixel, a byte written, or a payload', 'the second', ('ours',), plain, v3)
+    table('The library on one input against another, one call against another, or against plain copies or sums: a pixel, a byte written, a payload or a rectangle',
+          'the second', ('ours',), plain, v3)
     table('A call of ours and of the library from before', 'before', ('before',), plain, v3)
     table('FreeRDP: its picture to RGBA has no filter (its auxiliary combine filters), its from RGBA neither average nor filled edge', 'FreeRDP', ('FreeRDP',), plain, v3)
     table('libyuv: BT.601 of limited range, with no filter, no average and no filled edge', 'libyuv', ('libyuv',), plain, v3)

@@ -87,17 +87,17 @@ impl Bench {
     }
 }
 
-/// A call of the library on two inputs, or on one and something plain beside it, to weigh the times against each other.
+/// A call of the library on two inputs, or on one and something plain or another call beside it, to weigh the times against each other.
 pub struct Weighing {
     pub name: &'static str,
     /// The first input against the second, in words.
     pub input: &'static str,
-    /// What the ratio of the times a pixel, a byte or a payload is to be at most, if that is laid down.
+    /// What the ratio of the times a pixel, a byte, a payload or a rectangle is to be at most, if that is laid down.
     pub bound: Option<f64>,
     pub passes: fn() -> [Pass; 2],
 }
 
-/// A call, or what is plain beside it, over so many pixels, bytes or payloads. It answers a sum of what it was answered.
+/// A call, or what is plain beside it, over so many pixels, bytes, payloads or rectangles. It answers a sum of what it was answered.
 pub struct Pass {
     pub units: u64,
     pub run: Box<dyn FnMut() -> u64>,
@@ -118,7 +118,7 @@ pub fn scale(pass: impl Fn(u16, u16) -> Pass) -> [Pass; 2] {
 }
 
 impl Weighing {
-    /// Runs both in turns: the least nanoseconds a pixel, a byte or a payload of each.
+    /// Runs both in turns: the least nanoseconds a pixel, a byte, a payload or a rectangle of each.
     pub fn run(&self, rounds: u32) -> [f64; 2] {
         let mut passes = (self.passes)();
         let mut least = [Duration::MAX; 2];

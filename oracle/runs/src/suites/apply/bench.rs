@@ -1,13 +1,15 @@
 //! The apply calls timed.
 
+use std::cell::RefCell;
 use std::hint::black_box;
+use std::rc::Rc;
 
 use original::avc444::{probe, Yuv444Frame};
 use original::decode::Yuv420Frame;
 use original::ExclusiveRectangle;
 
 use super::case::Call;
-use super::{MAIN, V1, V2, V2_32};
+use super::{MAIN, MAIN_STRICT, V1, V1_STRICT, V2, V2_32, V2_STRICT};
 use crate::bench::{sample, scale, Bench, Over, Pass, Sides, Weighing, SCALES};
 use crate::suites::lists;
 use crate::suites::noise::{Noise, LONGEST};
@@ -92,9 +94,54 @@ pub const V1_SCALE: Weighing =
 pub const V2_SCALE: Weighing =
     Weighing { name: "apply_auxiliary_v2", input: SCALES, bound: Some(2.0), passes: || scaled(&V2) };
 
+/// What it costs to test a list: 1.05 over 500 rectangles is laid down.
+pub const MAIN_STRICT_RECTS: Weighing = Weighing {
+    name: "apply_main_view_strict",
+    input: STRICT_ODD_RECTS,
+    bound: Some(1.05),
+    passes: || beside(&MAIN_STRICT, &MAIN, 8, odd_rects()),
+};
+
+pub const MAIN_STRICT_SMALL: Weighing = Weighing {
+    name: "apply_main_view_strict",
+    input: STRICT_SMALL_RECTS,
+    bound: None,
+    passes: || beside(&MAIN_STRICT, &MAIN, 80, small_rects()),
+};
+
+pub const V1_STRICT_RECTS: Weighing = Weighing {
+    name: "apply_auxiliary_v1_strict",
+    input: STRICT_ODD_RECTS,
+    bound: Some(1.05),
+    passes: || beside(&V1_STRICT, &V1, 8, odd_rects()),
+};
+
+pub const V1_STRICT_SMALL: Weighing = Weighing {
+    name: "apply_auxiliary_v1_strict",
+    input: STRICT_SMALL_RECTS,
+    bound: None,
+    passes: || beside(&V1_STRICT, &V1, 80, small_rects()),
+};
+
+pub const V2_STRICT_RECTS: Weighing = Weighing {
+    name: "apply_auxiliary_v2_strict",
+    input: STRICT_ODD_RECTS,
+    bound: Some(1.05),
+    passes: || beside(&V2_STRICT, &V2, 8, odd_rects()),
+};
+
+pub const V2_STRICT_SMALL: Weighing = Weighing {
+    name: "apply_auxiliary_v2_strict",
+    input: STRICT_SMALL_RECTS,
+    bound: None,
+    passes: || beside(&V2_STRICT, &V2, 80, small_rects()),
+};
+
 const WHOLE: &str = ", the whole frame";
 const ODD_RECTS: &str = "1920x1080, 500 rectangles of about 64x16 with odd edges";
 const SMALL_RECTS: &str = "1920x1080, 100 rectangles of 16x16";
+const STRICT_ODD_RECTS: &str = "500 rectangles of about 64x16 with odd edges: strict against clipping";
+const STRICT_SMALL_RECTS: &str = "100 rectangles of 16x16: strict against clipping";
 
 fn whole(call: &'static Call, width: u16, height: u16) -> Sides {
     sides(call, width, height, vec![0, 0, width, height])
@@ -145,6 +192,24 @@ fn pass(call: &'static Call, width: u16, height: u16, list: Vec<u16>) -> Pass {
     Pass::new(u64::from(width) * u64::from(height), move || {
         let number = (call.ours)(sizes.size(), planes.lent(), black_box(&list), black_box(view.view()));
         u64::from(number) + planes.sample()
+    })
+}
+
+/// A strict call and the call that clips over the same list and the same buffers, each so often in a pass: the time a rectangle.
+fn beside(strict: &'static Call, clips: &'static Call, calls: u64, list: Vec<u16>) -> [Pass; 2] {
+    let noise = Noise::new(LONGEST);
+    let sizes = Mapped::exact(1920, 1080);
+    let lent = Rc::new((RefCell::new(Planes::new(&sizes, &noise, 1)), Owned::new(&noise, 1920, 1080), list));
+    [strict, clips].map(|call| {
+        let lent = Rc::clone(&lent);
+        Pass::new(calls * lent.2.len() as u64 / 4, move || {
+            let (planes, view, list) = &*lent;
+            let mut planes = planes.borrow_mut();
+            let mut number = || (call.ours)(sizes.size(), planes.lent(), black_box(list), black_box(view.view()));
+            let refused: u64 = (0..calls).map(|_| u64::from(number())).sum();
+            assert_eq!(refused, 0, "the lists of the bench are sound");
+            refused + planes.sample()
+        })
     })
 }
 

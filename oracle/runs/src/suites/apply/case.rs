@@ -24,6 +24,8 @@ pub struct Call {
     pub kind: Kind,
     /// What the width of a padded view is a multiple of: 16, or 32 by the 32 rule.
     pub unit: u16,
+    /// Whether a list that is not sound is refused, which the original clips.
+    pub strict: bool,
 }
 
 /// What the planes of pictures and views hold: random bytes, and bytes of which any 256 in a row differ.
@@ -87,7 +89,7 @@ impl<'a> Case<'a> {
         Outcome { number, count: 0, buffers: planes.whole() }
     }
 
-    /// Refusals: 1, 7, and the view's, which are 3 and 4.
+    /// Refusals: 1, 7, of a strict call 12, and the view's, which are 3 and 4.
     fn their_outcome(&self, list: &[u16]) -> Outcome {
         let mut planes = self.planes.clone();
         let unwritten = |number| Outcome::unwritten(number, self.planes.clone().whole());
@@ -97,6 +99,9 @@ impl<'a> Case<'a> {
         let Some(rects) = lists::originals_of(list) else {
             return unwritten(7);
         };
+        if self.call.strict && !lists::are_sound(list, self.picture.size()) {
+            return unwritten(12);
+        }
         match &self.theirs {
             Ok(view) => {
                 let mut picture = planes.original(&self.picture.planes);

@@ -65,6 +65,31 @@ pub fn by_width(run: &mut Run, call: &'static Call) {
     }
 }
 
+/// What `strict` makes, in words.
+pub const ABOUT_STRICT: &str = "the original applies a list that is sound; any other is to be refused with 12, whole
+systematic: the cases of apply_main_view for widths and heights of 0 to 3, 5, about 16 and 32, and 48; 144 rectangles of each picture whose
+edges are just sound and just not, alone and as one of three; lists of up to six sound ones
+named: those of apply_main_view
+random: those of apply_main_view, half of the lists sound or but for one";
+
+/// Every case of a strict call: fewer sizes, and lists at the edge of what is sound.
+pub fn strict(run: &mut Run, call: &'static Call) {
+    const SIDES: [u16; 12] = [0, 1, 2, 3, 5, 15, 16, 17, 31, 32, 33, 48];
+    let sources = Sources::new();
+    named::every(run, call, &sources);
+    for width in SIDES {
+        for height in SIDES {
+            let small = Small { call, sources: &sources, size: Size { width, height } };
+            small.every(run);
+            small.just_sound(run);
+        }
+    }
+    wide(run, call, &sources);
+    while run.more() {
+        random_case(run, call, &sources);
+    }
+}
+
 /// The widest pictures, with views that end before V begins and after it, and at the last column.
 fn far(run: &mut Run, call: &'static Call, sources: &Sources) {
     for width in [65_503, 65_504, 65_505, 65_520, 65_535] {
@@ -92,10 +117,10 @@ fn wide(run: &mut Run, call: &'static Call, sources: &Sources) {
 }
 
 /// A picture of the systematic cases.
-struct Small<'a> {
-    call: &'static Call,
-    sources: &'a Sources,
-    size: Size,
+pub struct Small<'a> {
+    pub call: &'static Call,
+    pub sources: &'a Sources,
+    pub size: Size,
 }
 
 impl<'a> Small<'a> {
@@ -173,6 +198,22 @@ impl<'a> Small<'a> {
         case.check(run, &[left, top, right, bottom, left, top, right, bottom]);
     }
 
+    /// Rectangles whose edges are just sound and just not, alone and among two that are sound; and lists of sound ones.
+    pub fn just_sound(&self, run: &mut Run) {
+        let case = self.with(self.padded());
+        for (turn, rect) in lists::about_sound(self.size).enumerate() {
+            case.check(run, &rect);
+            let mut list = lists::sound(&mut run.random, self.size, 2);
+            let place = (4 * (turn % 3)).min(list.len());
+            list.splice(place..place, rect);
+            case.check(run, &list);
+        }
+        for rects in 0..=6 {
+            let list = lists::sound(&mut run.random, self.size, rects);
+            case.check(run, &list);
+        }
+    }
+
     /// All that is refused, alone and together.
     fn refusals(&self, run: &mut Run) {
         let Size { width, height } = self.size;
@@ -213,9 +254,23 @@ fn random_case(run: &mut Run, call: &'static Call, sources: &Sources) {
             0 => run.random.between(0, 40),
             _ => 4 * run.random.between(0, 6),
         };
-        let list = lists::anyhow(&mut run.random, picture.size(), numbers as usize);
+        let list = match call.strict && run.random.between(0, 1) == 0 {
+            true => nearly_sound(&mut run.random, picture.size()),
+            false => lists::anyhow(&mut run.random, picture.size(), numbers as usize),
+        };
         case.check(run, &list);
     }
+}
+
+/// A list of sound rectangles, or of all but one.
+fn nearly_sound(random: &mut Random, size: Size) -> Vec<u16> {
+    let rects = random.between(0, 6) as usize;
+    let mut list = lists::sound(random, size, rects);
+    if random.between(0, 2) == 0 && !list.is_empty() {
+        let place = 4 * random.between(0, list.len() as u64 / 4 - 1) as usize;
+        list[place..place + 4].copy_from_slice(&lists::any_rect(random, size));
+    }
+    list
 }
 
 /// Small, middling, very wide or very high.
