@@ -6,15 +6,18 @@
    from the rules' words alone: the views are the picture's samples and, past its stride, Y 0 and U and V 128; luma and chroma are the
    picture's where some rectangle takes them, and as before elsewhere. The map of stale colour begins as any bytes: every block in a widened
    rectangle is 1 after the main view and 2 after the auxiliary one, and every other as before. A width above 65,504 is refused with 5 by
-   the 32 rule, and changes nothing.
+   the 32 rule, and changes nothing. The strict calls have to leave the same where every rectangle of the list is sound, and elsewhere both
+   are refused with 12, and no byte changes.
 
        agree [--seed N] [--cases N] [--seconds N] [--only CASE]
        agree --self-test      alters a byte of V and one of the map after the calls, in each layout and rule, and leaves the auxiliary view
-                              out: it has to be noticed; and lays the views out by the 16 rule where they are read by the 32 rule: that
-                              has to be noticed exactly where the two W differ
+                              out, of the calls that clip and of the strict ones, and clips where a list is to be refused: it has to be
+                              noticed; and lays the views out by the 16 rule where they are read by the 32 rule: that has to be
+                              noticed exactly where the two W differ
 
    The last line has the cases, by the 32 rule those whose W is the stride, those where it is 16 more and those that are too wide for it,
-   the bytes compared, how many of them of maps, the differences and the seed; the status is 1 if there is a difference. */
+   those whose list is sound, the bytes compared, how many of them of maps, the differences and the seed; the status is 1 if there is a
+   difference. */
 #include <stdint.h>
 #include <stdio.h>
 #include <stdlib.h>
@@ -43,9 +46,13 @@ typedef struct {
 
 static uint64_t compared, of_maps, differences;
 static uint64_t narrow, wide, refused; /* by the 32 rule: cases whose W is the stride, where it is 16 more, and too wide for it */
+static uint64_t sound_lists;           /* cases that the strict calls accept */
 enum { A_SAMPLE, A_BLOCK, NO_AUXILIARY, FAULTS };
+enum { CLIPPING, STRICT, FORMS };
 static int altered; /* the walk in which the self-test alters a byte of V or of the map or leaves the auxiliary view out, or 0 */
 static int fault;   /* which of these */
+static int form;    /* in which form of the calls */
+static int clipped; /* whether the self-test has the calls that clip take the place of the strict ones */
 static int crossed; /* whether the self-test splits by the 16 rule what is read by the 32 rule: the views are not looked at then */
 
 static void *room(size_t n)
@@ -130,6 +137,30 @@ static uint16_t edge(uint16_t size)
     }
 }
 
+/* Every rectangle of the list has left below right, top below bottom, right not above the width and bottom not above the height. */
+static int sound(const Case *c)
+{
+    for (const uint16_t *r = c->rects; r < c->rects + c->count; r += 4)
+        if (r[0] >= r[2] || r[1] >= r[3] || r[2] > c->width || r[3] > c->height) return 0;
+    return 1;
+}
+
+/* Two edges become those of a sound rectangle: within a side, which is not 0, in order, and not the same. */
+static void order(uint16_t *from, uint16_t *to, uint16_t size)
+{
+    uint16_t a = (uint16_t)(*from % (size + 1u)), b = (uint16_t)(*to % (size + 1u));
+    *from = a < b ? a : b, *to = a < b ? b : a;
+    if (a == b && a < size) ++*to;
+    if (a == b && a == size) --*from;
+}
+
+/* One case in four has a sound list: no rectangle where the picture has no pixel. */
+static void make_sound(Case *c)
+{
+    if (!c->width || !c->height) c->count = 0;
+    for (uint16_t *r = c->rects; r < c->rects + c->count; r += 4) order(r, r + 2, c->width), order(r + 1, r + 3, c->height);
+}
+
 /* One case in 512 has a side of up to 65,520, and of these one in eight a width at the end of the 32 rule, 65,489 to 65,520; the others are
    at most 160 each. */
 static Case made(uint64_t seed, uint64_t number)
@@ -156,12 +187,13 @@ static Case made(uint64_t seed, uint64_t number)
     c.rows = up16(c.height);
     c.count = 4 * below(RECTS + 1);
     for (size_t i = 0; i < c.count; i++) c.rects[i] = edge(i % 2 ? c.height : c.width);
+    if (number % 4 == 2) make_sound(&c);
     return c;
 }
 
 static void differs(const Case *c, uint64_t seed, uint64_t number, int walk, const char *what, size_t at)
 {
-    if (differences++ > 4 || altered || crossed) return;
+    if (differences++ > 4 || altered || clipped || crossed) return;
     printf("agree: --seed %llu --only %llu: %ux%u, %zu rectangles, %s: %s differs at byte %zu\n", (unsigned long long)seed,
            (unsigned long long)number, c->width, c->height, c->count / 4, names[walk], what, at);
 }
@@ -302,21 +334,27 @@ static haythaw_views split_of(const Case *c, uint64_t seed, uint64_t number, int
     return v;
 }
 
-/* The picture through one layout, by one rule, onto an earlier picture. */
-static void through(const Case *c, uint64_t seed, uint64_t number, int walk, Three picture, const uint8_t *luma, const uint8_t *chroma)
-{
-    static Apply *const auxiliary[] = {NULL, haythaw_apply_auxiliary_v1, haythaw_apply_auxiliary_v2, haythaw_apply_auxiliary_v2_32};
-    size_t plane = c->stride * c->rows, large = width_of(c, walk) * c->rows;
-    Three earlier = three(plane, plane), onto = copies_of(earlier), main = three(large, large / 4), aux = three(large, large / 4);
-    Lent map_was = any_map(plane / 4), map = copy_of(map_was);
-    haythaw_views v = split_of(c, seed, number, walk, picture, main, aux);
+/* The calls, of each form. */
+static Apply *const main_views[FORMS] = {haythaw_apply_main_view, haythaw_apply_main_view_strict};
+static Apply *const auxiliary_views[FORMS][WALKS + 1] = {
+    {NULL, haythaw_apply_auxiliary_v1, haythaw_apply_auxiliary_v2, haythaw_apply_auxiliary_v2_32},
+    {NULL, haythaw_apply_auxiliary_v1_strict, haythaw_apply_auxiliary_v2_strict, haythaw_apply_auxiliary_v2_32_strict}};
 
-    if (apply(haythaw_apply_main_view, c, onto, map, v, main)) differs(c, seed, number, walk, "the number of the main view", 0);
+/* Both views of a picture onto an earlier one, by the calls of a form. */
+static void onto_earlier(const Case *c, uint64_t seed, uint64_t number, int walk, int of, haythaw_views v, Three views[2], Three earlier,
+                         Lent map_was, Three picture, const uint8_t *luma, const uint8_t *chroma)
+{
+    const size_t plane = c->stride * c->rows;
+    const int alter = altered == walk && form == of ? fault : FAULTS;
+    Three onto = copies_of(earlier);
+    Lent map = copy_of(map_was);
+
+    if (apply(main_views[of], c, onto, map, v, views[0])) differs(c, seed, number, walk, "the number of the main view", 0);
     size_t first = wrong_map(c, map, map_was, chroma, 1);
-    if (altered == walk && fault == NO_AUXILIARY) v.width = v.height = 0;
-    if (apply(auxiliary[walk], c, onto, map, v, aux)) differs(c, seed, number, walk, "the number of the auxiliary view", 0);
-    if (altered == walk && fault == A_SAMPLE && plane) onto.v.at[plane - 1] ^= 1;
-    if (altered == walk && fault == A_BLOCK && plane) map.at[plane / 4 - 1] ^= 1;
+    if (alter == NO_AUXILIARY) v.width = v.height = 0;
+    if (apply(auxiliary_views[of][walk], c, onto, map, v, views[1])) differs(c, seed, number, walk, "the number of the auxiliary view", 0);
+    if (alter == A_SAMPLE && plane) onto.v.at[plane - 1] ^= 1;
+    if (alter == A_BLOCK && plane) map.at[plane / 4 - 1] ^= 1;
     size_t second = wrong_map(c, map, map_was, chroma, 2);
     size_t y = wrong_plane(onto.y, earlier.y, picture.y, luma);
     size_t u = wrong_plane(onto.u, earlier.u, picture.u, chroma);
@@ -326,13 +364,41 @@ static void through(const Case *c, uint64_t seed, uint64_t number, int walk, Thr
     if (w < onto.v.lent) differs(c, seed, number, walk, "V", w);
     if (first < map.lent) differs(c, seed, number, walk, "the map after the main view", first);
     if (second < map.lent) differs(c, seed, number, walk, "the map after both views", second);
-    done(earlier), done(onto), done(main), done(aux);
-    free(map_was.at), free(map.at);
+    done(onto), free(map.at);
 }
 
 static int same_three(Three a, Three b)
 {
     return !memcmp(a.y.at, b.y.at, b.y.lent) && !memcmp(a.u.at, b.u.at, b.u.lent) && !memcmp(a.v.at, b.v.at, b.v.lent);
+}
+
+/* A list that is not sound: 12 from both strict calls, and no byte changes. */
+static void unsound(const Case *c, uint64_t seed, uint64_t number, int walk, haythaw_views v, Three views[2], Three earlier, Lent map_was)
+{
+    const int of = clipped == walk ? CLIPPING : STRICT;
+    Three onto = copies_of(earlier);
+    Lent map = copy_of(map_was);
+    uint32_t first = apply(main_views[of], c, onto, map, v, views[0]), second = apply(auxiliary_views[of][walk], c, onto, map, v, views[1]);
+    if (first != 12 || second != 12) differs(c, seed, number, walk, "the number of an unsound list", 0);
+    if (!same_three(onto, earlier) || memcmp(map.at, map_was.at, map.lent)) differs(c, seed, number, walk, "what an unsound list leaves", 0);
+    compared += onto.y.lent + onto.u.lent + onto.v.lent + map.lent, of_maps += map.lent;
+    done(onto), free(map.at);
+}
+
+/* The picture through one layout, by one rule, onto an earlier picture. */
+static void through(const Case *c, uint64_t seed, uint64_t number, int walk, Three picture, const uint8_t *luma, const uint8_t *chroma)
+{
+    size_t plane = c->stride * c->rows, large = width_of(c, walk) * c->rows;
+    Three earlier = three(plane, plane), views[2] = {three(large, large / 4), three(large, large / 4)};
+    Lent map_was = any_map(plane / 4);
+    haythaw_views v = split_of(c, seed, number, walk, picture, views[0], views[1]);
+    onto_earlier(c, seed, number, walk, CLIPPING, v, views, earlier, map_was, picture, luma, chroma);
+    if (sound(c))
+        onto_earlier(c, seed, number, walk, STRICT, v, views, earlier, map_was, picture, luma, chroma);
+    else
+        unsound(c, seed, number, walk, v, views, earlier, map_was);
+    done(earlier), done(views[0]), done(views[1]);
+    free(map_was.at);
 }
 
 /* A W above 65,535: 5, and no byte of views that would be long enough changes. */
@@ -365,6 +431,7 @@ static void run(uint64_t seed, uint64_t number)
     size_t plane = c.stride * c.rows;
     uint8_t *luma = room(plane), *chroma = room(plane);
     mark(&c, luma, chroma);
+    sound_lists += (uint64_t)sound(&c);
     Three picture = three(plane, plane), was = copies_of(picture);
     through(&c, seed, number, V1, picture, luma, chroma);
     through(&c, seed, number, V2, picture, luma, chroma);
@@ -385,23 +452,46 @@ static int takes(const Case *c)
     return any_taken;
 }
 
-/* In the first case that takes some chroma. A byte altered in one walk is one difference; an auxiliary view that is left out is one in U, in V
-   and in the map. */
+/* The first case that takes some chroma, whose list is sound or is not. */
+static uint64_t first_that_takes(int with_sound_list)
+{
+    uint64_t number = 0;
+    for (Case c = made(1, number); !takes(&c) || sound(&c) != with_sound_list; c = made(1, number)) number++;
+    return number;
+}
+
+/* In the first case that takes some chroma by a sound list, so that both forms are walked. A byte altered in one walk is one difference; an
+   auxiliary view that is left out is one in U, in V and in the map. */
 static int alter_each(void)
 {
     static const struct { const char *what; uint64_t differences; } faults[FAULTS] = {
         {"an altered byte of V", 1}, {"an altered byte of the map", 1}, {"an auxiliary view left out", 3}};
-    uint64_t number = 0;
-    for (Case c = made(1, number); !takes(&c); c = made(1, number)) number++;
+    const uint64_t number = first_that_takes(1);
     for (altered = 1; altered <= WALKS; altered++)
-        for (fault = 0; fault < FAULTS; fault++) {
+        for (int k = 0; k < FORMS * FAULTS; k++) {
+            form = k / FAULTS, fault = k % FAULTS;
             differences = 0;
             run(1, number);
             if (differences == faults[fault].differences) continue;
-            printf("agree: %s in %s was not noticed\n", faults[fault].what, names[altered]);
+            printf("agree: %s in %s%s was not noticed\n", faults[fault].what, names[altered], form == STRICT ? ", strict," : "");
             return 1;
         }
     altered = 0;
+    return 0;
+}
+
+/* In the first case that takes some chroma by a list that is not sound: the number and what is left differ, in one walk. */
+static int clip_each(void)
+{
+    const uint64_t number = first_that_takes(0);
+    for (clipped = 1; clipped <= WALKS; clipped++) {
+        differences = 0;
+        run(1, number);
+        if (differences == 2) continue;
+        printf("agree: an unsound list that was clipped in %s was not noticed\n", names[clipped]);
+        return 1;
+    }
+    clipped = 0;
     return 0;
 }
 
@@ -430,9 +520,10 @@ static int cross(uint64_t *apart, uint64_t *alike)
 static int self_test(void)
 {
     uint64_t apart = 0, alike = 0;
-    if (alter_each() || cross(&apart, &alike)) return 1;
-    printf("agree: an altered byte, of V or of the map, and an auxiliary view left out are noticed in each layout and by the 32 rule; views of "
-           "the 16 rule that are read by the 32 rule are noticed in %llu cases, and are right in %llu, whose W is the stride\n",
+    if (alter_each() || clip_each() || cross(&apart, &alike)) return 1;
+    printf("agree: an altered byte, of V or of the map, and an auxiliary view left out, by the calls that clip and by the strict ones, and an "
+           "unsound list that is clipped are noticed in each layout and by the 32 rule; views of the 16 rule that are read by the 32 rule are "
+           "noticed in %llu cases, and are right in %llu, whose W is the stride\n",
            (unsigned long long)apart, (unsigned long long)alike);
     return 0;
 }
@@ -443,8 +534,9 @@ int main(int argc, char **argv)
     const Options options = options_of("agree", 40000, argc, argv);
     const uint64_t ran = walk("agree", "cases", options, &differences, run);
     printf("agree: %llu cases through both layouts, and by the 32 rule: %llu with W the stride, %llu with 16 more, %llu too wide for it; "
-           "%llu bytes compared, %llu of them of maps, %llu differences, seed %llu\n",
+           "%llu with a sound list, by the strict calls too; %llu bytes compared, %llu of them of maps, %llu differences, seed %llu\n",
            (unsigned long long)ran, (unsigned long long)narrow, (unsigned long long)wide, (unsigned long long)refused,
-           (unsigned long long)compared, (unsigned long long)of_maps, (unsigned long long)differences, (unsigned long long)options.seed);
+           (unsigned long long)sound_lists, (unsigned long long)compared, (unsigned long long)of_maps, (unsigned long long)differences,
+           (unsigned long long)options.seed);
     return differences != 0;
 }

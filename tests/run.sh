@@ -1,7 +1,8 @@
 #!/usr/bin/env bash
 # Compiles one of this folder's runs over the library for this machine, lets it show that it notices a wrong answer, and runs it:
 #
-#   tests/run.sh agree [ARGS]   demand 3: pictures and lists onto earlier pictures through both layouts, V2 by both rules, every lent byte (agree.c)
+#   tests/run.sh agree [ARGS]   demand 3: pictures and lists onto earlier pictures through both layouts, V2 by both rules, every lent byte,
+#                               by the calls that clip and by the strict ones (agree.c)
 #   tests/run.sh wire [ARGS]    payloads good and bad, every answer beside a reader written from request E1's words alone (wire.c)
 #   tests/run.sh write [ARGS]   kinds, lists, pairs and H.264 bytes good and bad, every answer and byte beside a writer written from
 #                               request E7's words alone, and round trips both ways (write.c)
