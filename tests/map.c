@@ -20,7 +20,8 @@
 #include "haythaw.h"
 
 enum { PLANES = 3, BUFFERS = 4, HEAD = 13, CALL = 55 };
-enum { NEW, FROM_RGBA, FROM_RGBA_RUST, TO_RGBA, MAIN, AUX_V1, AUX_V2, AUX_V2_32, AUX_V2_EXACT, CALLS };
+enum { NEW, FROM_RGBA, FROM_RGBA_RUST, TO_RGBA, MAIN, AUX_V1, AUX_V2, AUX_V2_32, AUX_V2_EXACT,
+       MAIN_STRICT, AUX_V1_STRICT, AUX_V2_STRICT, AUX_V2_32_STRICT, AUX_V2_EXACT_STRICT, CALLS };
 
 typedef struct { uint8_t *at; size_t count; } Lent;
 typedef struct { uint16_t width, height; Lent of[BUFFERS], were[PLANES]; } Picture; /* y, u, v and the map; and the planes before a call */
@@ -73,7 +74,12 @@ static haythaw_pixels called(int call, Picture *p, const size_t count[BUFFERS], 
     static From *const from[] = {[FROM_RGBA] = haythaw_from_rgba, [FROM_RGBA_RUST] = haythaw_from_rgba_rust};
     static Apply *const apply[] = {[MAIN] = haythaw_apply_main_view, [AUX_V1] = haythaw_apply_auxiliary_v1,
                                    [AUX_V2] = haythaw_apply_auxiliary_v2, [AUX_V2_32] = haythaw_apply_auxiliary_v2_32,
-                                   [AUX_V2_EXACT] = haythaw_apply_auxiliary_v2_exact};
+                                   [AUX_V2_EXACT] = haythaw_apply_auxiliary_v2_exact,
+                                   [MAIN_STRICT] = haythaw_apply_main_view_strict,
+                                   [AUX_V1_STRICT] = haythaw_apply_auxiliary_v1_strict,
+                                   [AUX_V2_STRICT] = haythaw_apply_auxiliary_v2_strict,
+                                   [AUX_V2_32_STRICT] = haythaw_apply_auxiliary_v2_32_strict,
+                                   [AUX_V2_EXACT_STRICT] = haythaw_apply_auxiliary_v2_exact_strict};
     haythaw_pixels answer = {0, 0, 0, 0, 0};
     if (call == TO_RGBA)
         return haythaw_to_rgba(p->width, p->height, PICTURE(p, count), list[0], list[1], list[2], list[3], rgba.at, rgba.count);
@@ -89,7 +95,7 @@ static haythaw_pixels called(int call, Picture *p, const size_t count[BUFFERS], 
 /* Whether the planes that must not change have not. */
 static bool kept(int call, const Picture *p, uint32_t number)
 {
-    const int planes = number || call == TO_RGBA ? PLANES : call > MAIN ? 1 : 0;
+    const int planes = number || call == TO_RGBA ? PLANES : call > MAIN && call != MAIN_STRICT ? 1 : 0;
     bool same = true;
     for (int k = 0; k < planes; k++) same = same && !memcmp(p->of[k].at, p->were[k].at, p->of[k].count);
     return same;

@@ -8,8 +8,9 @@ those past it included, have to be what the model says.
 
 A sequence is a picture, 0 to 40 wide and high, odd sides often, seldom larger, and once in a while up to 65,535; made fresh, made of RGBA by
 either call, or found with any bytes in its map. Then come one to eight calls: main views, auxiliary views of V1 and of V2 by each of the three
-rules, and pictures to RGBA; with views that are smaller, cropped, as large or larger, or empty, and lists of up to four rectangles, empty,
-reversed, odd and off the picture among them. Some calls are to be refused, for one reason or several at once.
+rules, one in three of them strict, and pictures to RGBA; with views that are smaller, cropped, as large or larger, or empty, and lists of up to
+four rectangles, empty, reversed, odd and off the picture among them; those of the strict calls are mostly sound, or but for one. Some calls are to
+be refused, for one reason or several at once.
 
 First, bytes of some answers are changed, each of which has to be noticed in its own sequence alone, and wrong models are asked in place of the
 right one: each has to differ somewhere.
@@ -25,7 +26,7 @@ import tempfile
 import time
 
 sys.dont_write_bytecode = True                  # nothing is left in the tree
-from map_model import ANSWER, AUX_V1, DONE, FROM_RGBA, MAIN, NEW, TO_RGBA, WRONG, Call, Model, Picture, up
+from map_model import ANSWER, AUX_V1, DONE, FROM_RGBA, MAIN, NEW, RECT_UNSOUND, TO_RGBA, WRONG, Call, Model, Picture, up
 
 ROOT = os.path.dirname(os.path.dirname(os.path.abspath(__file__)))
 SEQUENCES, BATCH, TRIED = 100000, 500, 3000     # in all, in one run of the program, and asked of the wrong models
@@ -95,6 +96,31 @@ def rectangle(picture):
     return left, top, right, bottom
 
 
+def sound(picture):
+    """A rectangle that is sound: the whole, or any in the picture."""
+    if below(4) == 0:
+        return 0, 0, picture.width, picture.height
+    left, top = below(picture.width), below(picture.height)
+    return left, top, left + 1 + below(picture.width - left), top + 1 + below(picture.height - top)
+
+
+def just_unsound(picture):
+    """A sound rectangle of which one edge was moved just so far that it is not."""
+    left, top, right, bottom = sound(picture)
+    return ((right, top, right, bottom), (left, bottom, right, bottom), (left, top, min(65535, picture.width + 1), bottom),
+            (left, top, right, min(65535, picture.height + 1)))[below(4)]
+
+
+def listed(picture, count, strict):
+    """The rectangles of a list; for a strict call mostly sound, or but for one."""
+    if not strict or not picture.width or not picture.height or below(5) == 0:
+        return [rectangle(picture) for _ in range(count)]
+    found = [sound(picture) for _ in range(count)]
+    if count and below(3) == 0:
+        found[below(count)] = just_unsound(picture)
+    return found
+
+
 def less(number):
     """A byte short, or seldom more, of what has bytes."""
     return max(0, number - (1 if below(4) else 1 + below(20)))
@@ -136,13 +162,12 @@ def faults():
 
 def apply_call(picture, which):
     short, uneven, narrow, view_short = faults()
-    numbers = []
-    for _ in range((1, 1, 1, 2, 3, 4, 0)[below(7)]):
-        numbers += rectangle(picture)
+    strict = below(3) == 0
+    numbers = [edge for rect in listed(picture, (1, 1, 1, 2, 3, 4, 0)[below(7)], strict) for edge in rect]
     if uneven:
         numbers = numbers[1 + below(3):] if numbers else [1] * (1 + below(3))
     view, planes = view_of(picture, narrow, view_short)
-    return Call(which, lent(picture, short), view, planes, 0, numbers)
+    return Call(which, lent(picture, short), view, planes, 0, numbers, strict)
 
 
 def pixels_call(picture, which):
@@ -241,15 +266,18 @@ def batch(work):
     """So many sequences: what is counted, and what is wrong."""
     program, seed, start, count = work
     model, sequences = Model(), [Sequence(seed, number) for number in range(start, start + count)]
-    found, calls, refused, compared = [], 0, 0, 0
+    found, calls, strict, refused, unsound, compared = [], 0, 0, 0, 0, 0
     for one, said in zip(sequences, asked(program, sequences)):
         right = model.answers(one)
         if said != right:
             found.append(f'--seed {seed} --only {one.number}: {first_wrong(one, said, right)}')
+        numbers = [model.number(one.picture, call) for call in one.calls]
         calls += len(one.calls)
-        refused += sum(model.number(one.picture, call) != DONE for call in one.calls)
+        strict += sum(call.strict for call in one.calls)
+        refused += sum(number != DONE for number in numbers)
+        unsound += numbers.count(RECT_UNSOUND)
         compared += one.length() - len(one.calls) * ANSWER.size
-    return count, calls, refused, compared, found
+    return count, calls, strict, refused, unsound, compared, found
 
 
 def tried(program, seed):
@@ -287,7 +315,7 @@ class Progress:
 
 def all_sequences(program, seed, count):
     """Over two processes."""
-    total, found, progress = [0] * 4, [], Progress(count)
+    total, found, progress = [0] * 6, [], Progress(count)
     works = [(program, seed, start, min(BATCH, count - start)) for start in range(0, count, BATCH)]
     with multiprocessing.Pool(2) as pool:
         for *counted, wrong in pool.imap_unordered(batch, works):
@@ -335,12 +363,13 @@ def main(long, seed, one):
         if one is not None:
             return only(program, seed, one)
         missed, changed = tried(program, seed)
-        (sequences, calls, refused, compared), found = all_sequences(program, seed, SEQUENCES * (10 if long else 1))
+        (sequences, calls, strict, refused, unsound, compared), found = all_sequences(program, seed, SEQUENCES * (10 if long else 1))
     for line in sorted(found)[:8] + missed[:8]:
         print(f'map: {line}')
     if not missed:
         print(f'map: {len(WRONG)} wrong models and {changed} changed bytes noticed')
-    print(f'map: {sequences} sequences, {calls} calls, {refused} of them refused, {compared} map bytes, {len(found) + len(missed)} wrong')
+    print(f'map: {sequences} sequences, {calls} calls, {strict} of them strict, {refused} of them refused, {unsound} for an unsound list, '
+          f'{compared} map bytes, {len(found) + len(missed)} wrong')
     return bool(found or missed)
 
 

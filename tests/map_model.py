@@ -1,11 +1,12 @@
-"""The map of stale colour, worked out from the words of the rules alone (docs/RULES.md, R57, R60 to R79), for tests/map_cases.py: what a call has
-to answer and which map it has to leave. It works place by place: each of the four places of a block has a mask, a long number with a byte for
-every block, so that a call is a few operations on such numbers. Then models that get one of the words wrong."""
+"""The map of stale colour, worked out from the words of the rules alone (docs/RULES.md, R57, R60 to R79, R86), for tests/map_cases.py: what a
+call has to answer and which map it has to leave. It works place by place: each of the four places of a block has a mask, a long number with
+a byte for every block, so that a call is a few operations on such numbers. Then models that get one of the words wrong."""
 import struct
 
 CALLS = NEW, FROM_RGBA, FROM_RGBA_RUST, TO_RGBA, MAIN, AUX_V1, AUX_V2, AUX_V2_32, AUX_V2_EXACT = range(9)
+STRICT = 5                                      # by so many a strict call comes after the one that clips, in tests/map.c
 NAMES = 'new', 'from_rgba', 'from_rgba_rust', 'to_rgba', 'main', 'auxiliary v1', 'auxiliary v2', 'auxiliary v2 32', 'auxiliary v2 exact'
-DONE, PLANE_SHORT, RGBA_SHORT, VIEW_NARROW, VIEW_SHORT, OUTPUT_SHORT, LIST_UNEVEN = 0, 1, 2, 3, 4, 6, 7
+DONE, PLANE_SHORT, RGBA_SHORT, VIEW_NARROW, VIEW_SHORT, OUTPUT_SHORT, LIST_UNEVEN, RECT_UNSOUND = 0, 1, 2, 3, 4, 6, 7, 12
 CALL = struct.Struct('<B4IHHQQ3IIH')            # a call and an answer as tests/map.c has them
 ANSWER = struct.Struct('<IQQB')
 ONE_WHERE_1 = bytes(byte == 1 for byte in range(256))
@@ -45,19 +46,19 @@ class Picture:
 
 
 class Call:
-    """Which call, and what it is lent."""
+    """Which call, in which form, and what it is lent."""
 
-    def __init__(self, which, counts, view=(0, 0, 0, 0), planes=(0, 0, 0), rgba=0, numbers=()):
-        self.which, self.counts, self.planes, self.rgba, self.numbers = which, counts, planes, rgba, numbers
+    def __init__(self, which, counts, view=(0, 0, 0, 0), planes=(0, 0, 0), rgba=0, numbers=(), strict=False):
+        self.which, self.counts, self.planes, self.rgba, self.numbers, self.strict = which, counts, planes, rgba, numbers, strict
         self.width, self.height, self.luma_stride, self.chroma_stride = view
 
     def given(self):
-        return CALL.pack(self.which, *self.counts, self.width, self.height, self.luma_stride, self.chroma_stride, *self.planes, self.rgba,
-                         len(self.numbers)) + struct.pack(f'<{len(self.numbers)}H', *self.numbers)
+        return CALL.pack(self.which + STRICT * self.strict, *self.counts, self.width, self.height, self.luma_stride, self.chroma_stride,
+                         *self.planes, self.rgba, len(self.numbers)) + struct.pack(f'<{len(self.numbers)}H', *self.numbers)
 
     def __str__(self):
-        return (f'{NAMES[self.which]}: lent {self.counts}, view {self.width}x{self.height} of strides {self.luma_stride} and '
-                f'{self.chroma_stride} and planes {self.planes}, RGBA {self.rgba}, list {self.numbers}')
+        return (f'{NAMES[self.which]}{" strict" * self.strict}: lent {self.counts}, view {self.width}x{self.height} of strides '
+                f'{self.luma_stride} and {self.chroma_stride} and planes {self.planes}, RGBA {self.rgba}, list {self.numbers}')
 
 
 class Model:
@@ -160,6 +161,14 @@ class Model:
         """1: a plane is too short, or the map."""
         return min(call.counts[:3]) < picture.plane or call.counts[3] < picture.blocks
 
+    def faulty(self, picture, left, top, right, bottom):
+        """R86: "left not below right, top not below bottom, right above width or bottom above height"."""
+        return not left < right or not top < bottom or right > picture.width or bottom > picture.height
+
+    def unsound(self, picture, call):
+        """12: "any rectangle"."""
+        return any(self.faulty(picture, *call.numbers[k:k + 4]) for k in range(0, len(call.numbers) // 4 * 4, 4))
+
     def refusals(self, picture, call):
         """The numbers of the reasons for a refusal, in their order."""
         if call.which in (FROM_RGBA, FROM_RGBA_RUST):
@@ -171,6 +180,7 @@ class Model:
         if call.which >= MAIN:
             chroma_width, chroma_height = (call.width + 1) // 2, (call.height + 1) // 2
             yield LIST_UNEVEN, len(call.numbers) % 4
+            yield RECT_UNSOUND, call.strict and self.unsound(picture, call)
             yield VIEW_NARROW, call.luma_stride < call.width or call.chroma_stride < chroma_width
             yield VIEW_SHORT, call.planes[0] < call.luma_stride * call.height or min(call.planes[1:]) < call.chroma_stride * chroma_height
 
@@ -398,6 +408,106 @@ class RefusalsMark(Model):
 
     def refused(self, picture, call, before):
         return self.main(picture, call, before) if call.which == MAIN and len(call.numbers) % 4 == 0 else before
+
+
+class ForgetsLeft(Model):
+    def faulty(self, picture, left, top, right, bottom):
+        return not top < bottom or right > picture.width or bottom > picture.height
+
+
+class ForgetsTop(Model):
+    def faulty(self, picture, left, top, right, bottom):
+        return not left < right or right > picture.width or bottom > picture.height
+
+
+class ForgetsRight(Model):
+    def faulty(self, picture, left, top, right, bottom):
+        return not left < right or not top < bottom or bottom > picture.height
+
+
+class ForgetsBottom(Model):
+    def faulty(self, picture, left, top, right, bottom):
+        return not left < right or not top < bottom or right > picture.width
+
+
+class LeftMayBeRight(Model):
+    def faulty(self, picture, left, top, right, bottom):
+        return left > right or not top < bottom or right > picture.width or bottom > picture.height
+
+
+class TopMayBeBottom(Model):
+    def faulty(self, picture, left, top, right, bottom):
+        return not left < right or top > bottom or right > picture.width or bottom > picture.height
+
+
+class RightAtTheWidthIsUnsound(Model):
+    def faulty(self, picture, left, top, right, bottom):
+        return super().faulty(picture, left, top, right, bottom) or right == picture.width
+
+
+class BottomAtTheHeightIsUnsound(Model):
+    def faulty(self, picture, left, top, right, bottom):
+        return super().faulty(picture, left, top, right, bottom) or bottom == picture.height
+
+
+class SoundInThePadding(Model):
+    def faulty(self, picture, left, top, right, bottom):
+        return not left < right or not top < bottom or right > 2 * picture.across or bottom > 2 * picture.down
+
+
+class SoundInTheView(Model):
+    def unsound(self, picture, call):
+        return super().unsound(call, call)
+
+
+class FirstRectangleTestedAlone(Model):
+    def unsound(self, picture, call):
+        return len(call.numbers) >= 4 and self.faulty(picture, *call.numbers[:4])
+
+
+class EmptyListIsUnsound(Model):
+    def unsound(self, picture, call):
+        return not call.numbers or super().unsound(picture, call)
+
+
+class ClippingIsStrict(Model):
+    def refusals(self, picture, call):
+        for number, holds in super().refusals(picture, call):
+            yield number, self.unsound(picture, call) if number == RECT_UNSOUND else holds
+
+
+class UnsoundAfterTheView(Model):
+    """12 comes after 3 and 4."""
+
+    def refusals(self, picture, call):
+        return sorted(super().refusals(picture, call), key=lambda one: one[0] == RECT_UNSOUND)
+
+
+class UnsoundBeforeTheList(Model):
+    """12 comes before 7, and after 1."""
+
+    def refusals(self, picture, call):
+        return sorted(super().refusals(picture, call), key=lambda one: (RGBA_SHORT, PLANE_SHORT, RECT_UNSOUND).index(one[0])
+                      if one[0] in (RGBA_SHORT, PLANE_SHORT, RECT_UNSOUND) else 3)
+
+
+class UnsoundFirst(Model):
+    """12 comes before 1."""
+
+    def refusals(self, picture, call):
+        return sorted(super().refusals(picture, call), key=lambda one: one[0] != RECT_UNSOUND)
+
+
+class StrictServesTheSound(Model):
+    """The sound rectangles of a list that is refused are served all the same."""
+
+    def refused(self, picture, call, before):
+        if self.number(picture, call) != RECT_UNSOUND:
+            return before
+        sound = [call.numbers[k:k + 4] for k in range(0, len(call.numbers), 4) if not self.faulty(picture, *call.numbers[k:k + 4])]
+        served = Call(call.which, call.counts, (call.width, call.height, call.luma_stride, call.chroma_stride), call.planes,
+                      numbers=[edge for rect in sound for edge in rect])
+        return self.after(picture, served, before)
 
 
 WRONG = [one for one in globals().values() if isinstance(one, type) and issubclass(one, Model) and one is not Model]
