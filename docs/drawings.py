@@ -638,6 +638,45 @@ def draw_map():
     return picture(262 + 8 * BLOCK + 84, title, '0, 1 and 2, and the calls that lead from one to another. ' + ' '.join(said), out)
 
 
+# --- strict.svg: which rectangles a strict list may have.
+
+FAULTS = ['sound', 'left is not below right', 'top is not below bottom', 'right is above the width', 'bottom is above the height']
+LISTED = [(0, 0, 5, 5), (1, 2, 2, 3), (5, 0, 5, 4), (0, 3, 2, 3), (3, 1, 6, 4), (1, 3, 4, 6), (4, 4, 2, 2), (2, 2, 6, 6)]
+
+
+def fault_of(size, rect):
+    """strict/specs/Sound.antt: 0 for a sound rectangle, else its first fault."""
+    left, top, right, bottom = rect
+    return next((i for i, test in enumerate((right <= left, bottom <= top, size[0] < right, size[1] < bottom), 1) if test), 0)
+
+
+def strict_panel(x, y, size, rect):
+    """The picture's pixels and one row and column more on the right and below, and the rectangle's edges over them."""
+    cell, (left, top, right, bottom) = 22, rect
+    fault = fault_of(size, rect)
+    out = [box(x + cell * c, y + cell * r, cell, cell, '#ffffff' if c < size[0] and r < size[1] else PALE, '#cccccc', 0.7)
+           for r in range(size[1] + 1) for c in range(size[0] + 1)]
+    wide, high = cell * abs(right - left), cell * abs(bottom - top)
+    out.append(box(x, y, cell * size[0], cell * size[1], 'none', INK, 1.6, stroke_dasharray='5 3'))
+    out.append(box(x + cell * min(left, right), y + cell * min(top, bottom), wide, high, SKY if fault == 0 else ORANGE, 'none', 1, fill_opacity='0.55'))
+    out.append(path(f'M{x + cell * min(left, right)} {y + cell * min(top, bottom)}h{wide}v{high}h{-wide}z', BLUE if fault == 0 else RED, 3))
+    out.append(text(x, y + cell * (size[1] + 1) + 18, f'({left}, {top}, {right}, {bottom})', 12, font_weight='bold'))
+    words = FAULTS[0] if fault == 0 else f'fault {fault}: {FAULTS[fault]}'
+    out.append(text(x, y + cell * (size[1] + 1) + 36, words, 12))
+    return out
+
+
+def draw_strict():
+    size, out = (5, 5), []
+    for i, rect in enumerate(LISTED):
+        out += strict_panel(24 + 222 * (i % 4), 64 + 220 * (i // 4), size, rect)
+    out += [path('M24 508h26', INK, 1.6, stroke_dasharray='5 3') + text(58, 512, 'the picture’s edge, 5 x 5'),
+            path('M300 508h26', BLUE, 3) + text(334, 512, 'a sound rectangle'), path('M520 508h26', RED, 3) + text(554, 512, 'one for which the whole list is refused, with 12')]
+    said = 'Rectangles as left, top, right, bottom, right and bottom exclusive. ' + '; '.join(
+        f'{rect}: {FAULTS[0] if fault_of(size, rect) == 0 else f"fault {fault_of(size, rect)}, {FAULTS[fault_of(size, rect)]}"}' for rect in LISTED) + '.'
+    return picture(536, 'Sound rectangles of a picture of 5x5, and the four faults', said, out)
+
+
 # --- payload.svg: the bytes of an AVC444 payload of kind 0, and what the other kinds carry.
 
 BYTE = 27
@@ -857,7 +896,7 @@ def draw_products():
 # --- The files.
 
 DRAWINGS = {'v1.svg': lambda: draw_layout(V1), 'v2.svg': lambda: draw_layout(V2), 'v2_width.svg': draw_v2_width, 'widening.svg': draw_widening,
-            'map.svg': draw_map,
+            'map.svg': draw_map, 'strict.svg': draw_strict,
             'payload.svg': draw_payload, 'filter.svg': draw_filter, 'products.svg': draw_products}
 
 
