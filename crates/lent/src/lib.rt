@@ -46,7 +46,7 @@ fn copy_16(dst: &mut [u8], src: &[u8])
     copy_front(dst, &t, 16);
 }
 
-// dst becomes src, 2 or 3 bytes: the first two and the last, whatever the two have in common. Both are read before one is written, so that each is
+// dst becomes src, 2 to 4 bytes: the first two and the last, whatever the two have in common. Both are read before one is written, so that each is
 // one load and one store. The size is written out here and in its two likes below: where it is handed over, the compiler makes more of the copies.
 fn copy_by_2(dst: &mut [u8], src: &[u8])
     requires { ⌜ length (now dst) ≡ length (now src) ⌝ }
