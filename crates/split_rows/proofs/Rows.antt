@@ -27,7 +27,7 @@ abbrev pub rowOf : List ℕ → ℕ → ℕ → List ℕ
 rowOf plane stride row = take (row * stride + stride - row * stride) (drop (row * stride) plane)
 
 module _ (plane : List ℕ) (stride row : ℕ) where
-  row-sample : (j : ℕ) → j < stride → getD (rowOf plane stride row) j 0 ≡ sample plane stride row j
+  pub row-sample : (j : ℕ) → j < stride → getD (rowOf plane stride row) j 0 ≡ sample plane stride row j
   unfolding sample
   row-sample j h = getD-take (row * stride + stride - row * stride) (drop (row * stride) plane) j 0 (omega arith) ∙ getD-drop (row * stride) plane j 0
 
@@ -110,7 +110,7 @@ module _ (fill : ℕ) (plane : List ℕ) (stride row c : ℕ) where
   unfolding seen
   seen-inside h = sym (cond-true (ltb c stride) _ fill (lt-ltb c stride h))
 
-  seen-past : stride ≤ c → fill ≡ seen fill plane stride row c
+  pub seen-past : stride ≤ c → fill ≡ seen fill plane stride row c
   unfolding seen
   seen-past h = sym (cond-false (ltb c stride) _ fill (le-ltb c stride h))
 
@@ -140,14 +140,15 @@ module _ (src z dst : List ℕ) (n : ℕ) (most : length dst ≤ n) (room : leng
   unfolding pairOf
   paired-at k h = getD-paint _ _ z k (omega arith) ∙ cond-true (ltb k n) _ _ (lt-ltb k n (omega arith))
 
+  -- the first byte of pair k, and the second
+  pub first-of : {first : ℕ} → first ≡ 0 → (k : ℕ) → k < length dst → getD paired k 0 % 256 ≡ getD src (2 * k + first) 0
+  first-of {first} none k h = let is : 2 * k ≡ 2 * k + first = omega arith in omega (arith, paired-at k h, byte (2 * k)) ∙ ap (λ (j : ℕ). getD src j 0) is
+
+  pub last-of : {first : ℕ} → first ≡ 1 → (k : ℕ) → k < length dst → getD paired k 0 / 256 ≡ getD src (2 * k + first) 0
+  last-of {first} one k h = let is : 2 * k + 1 ≡ 2 * k + first = omega arith in omega (arith, paired-at k h, byte (2 * k)) ∙ ap (λ (j : ℕ). getD src j 0) is
+
   pub firsts-of : {first : ℕ} → first ≡ 0 → paint every (λ k. getD paired k 0 % 256) dst ≡ paint every (λ k. getD src (2 * k + first) 0) dst
-  firsts-of {first} none =
-      paint-ext every every _ _ dst (λ k h. refl)
-      (λ k h e. let is : 2 * k ≡ 2 * k + first = omega arith in
-      omega (arith, paired-at k h, byte (2 * k)) ∙ ap (λ (j : ℕ). getD src j 0) is)
+  firsts-of none = paint-ext every every _ _ dst (λ k h. refl) (λ k h e. first-of none k h)
 
   pub lasts-of : {first : ℕ} → first ≡ 1 → paint every (λ k. getD paired k 0 / 256) dst ≡ paint every (λ k. getD src (2 * k + first) 0) dst
-  lasts-of {first} one =
-      paint-ext every every _ _ dst (λ k h. refl)
-      (λ k h e. let is : 2 * k + 1 ≡ 2 * k + first = omega arith in
-      omega (arith, paired-at k h, byte (2 * k)) ∙ ap (λ (j : ℕ). getD src j 0) is)
+  lasts-of one = paint-ext every every _ _ dst (λ k h. refl) (λ k h e. last-of one k h)

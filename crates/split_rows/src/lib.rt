@@ -34,7 +34,7 @@ fn wide(b: u8) -> u16
 
 // Two bytes as one number: pairs[i] is src[2 i] + 256 src[2 i + 1], for i below n. The compiler makes a plain copy of it, where a loop
 // that reads every second byte would go byte by byte.
-fn pair(pairs: &mut [u16], src: &[u8], n: usize)
+pub fn pair(pairs: &mut [u16], src: &[u8], n: usize)
     requires { ⌜ n ≤ length (now pairs) ⌝ }
     requires { ⌜ 2 * n ≤ length (now src) ⌝ }
     ensures { λ _. ⌜ now (pairs .exit) ≡ paint (λ k. ltb k n) (pairOf (now (src .entry))) (now (pairs .entry)) ⌝ }
@@ -47,7 +47,7 @@ fn pair(pairs: &mut [u16], src: &[u8], n: usize)
 }
 
 // dst becomes the first bytes of the pairs.
-fn firsts(dst: &mut [u8], pairs: &[u16])
+pub fn firsts(dst: &mut [u8], pairs: &[u16])
     requires { ⌜ length (now dst) ≡ length (now pairs) ⌝ }
     ensures { λ _. ⌜ now (dst .exit) ≡ paint every (λ k. getD (now (pairs .entry)) k 0 % 256) (now (dst .entry)) ⌝ }
 {
@@ -89,7 +89,7 @@ fn seconds_64(dst: &mut [u8], src: &[u8], first: usize)
 }
 
 // The same of 128 bytes.
-fn seconds_128(dst: &mut [u8], src: &[u8], first: usize)
+pub fn seconds_128(dst: &mut [u8], src: &[u8], first: usize)
     requires { ⌜ length (now dst) ≡ 128 ⌝ }
     requires { ⌜ 256 ≤ length (now src) ⌝ }
     requires { ⌜ first < 2 ⌝ }
