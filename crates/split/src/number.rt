@@ -60,7 +60,7 @@ pub fn view_width(way: Way, size: picture::Size) -> usize
 }
 
 // Refusal 5: stride or rows is above 65,535, or the views' width is.
-fn too_large(wide: usize, size: picture::Size) -> bool
+pub fn too_large(wide: usize, size: picture::Size) -> bool
     ensures { λ r. ⌜ r ≡ tooLarge wide size ⌝ }
 {
     if 65535 < picture::stride(size) {
