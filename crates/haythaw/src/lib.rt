@@ -11,4 +11,5 @@ pub mod to_rgba_calls; // RGBA of a picture and of a view
 pub mod annex_b_calls; // the form of an H.264 payload
 pub mod picture_calls; // a 4:4:4 picture and its map, fresh or of RGBA pixels
 pub mod split_calls; // both views of a picture
+pub mod check_calls; // whether two views are those
 pub mod view_calls; // a 4:2:0 view and its rows
