@@ -52,6 +52,8 @@ cc "${strict[@]}" bind/c/payload.c "$library" -o "$made/payload"
 [[ $("$made/payload") == 'kind 0; luma 3 bytes at 18, chroma 2 bytes at 25; 4 numbers: 0 0 64 32' ]] || { echo 'c: FAILED: payload.c'; exit 1; }
 cc "${strict[@]}" bind/c/payload_write.c "$library" -o "$made/payload_write"
 [[ $("$made/payload_write") == '27 bytes of kind 0; luma 3 bytes at 18, chroma 2 bytes at 25' ]] || { echo 'c: FAILED: payload_write.c'; exit 1; }
+cc "${strict[@]}" bind/c/check.c "$library" -o "$made/check"
+[[ $("$made/check") == 'the views are the split of the picture'$'\n''auxiliary view, U, row 3, column 5: 100, the split has 99' ]] || { echo 'c: FAILED: check.c'; exit 1; }
 ran+=(examples)
 
 # The demo's program ends with 0 only if both layouts show the strip as it has to be.

@@ -57,10 +57,10 @@
 /* The version of this header and of the library that goes with it. 0.1 is what had no version: its pictures had no map. 0.2: a picture's
  * map follows v in haythaw_new, haythaw_from_rgba, haythaw_from_rgba_rust, haythaw_to_rgba and the five apply calls, haythaw_pixels
  * ends in `stale`, and there is haythaw_map_size. A program that was built for one of them does not work with the other. 0.3: there are
- * the five strict apply calls, haythaw_first_unsound and number 12. All else is as in 0.2, and a program that was built for 0.2 works
- * with 0.3. */
+ * the five strict apply calls, haythaw_first_unsound and number 12. 0.4: there are haythaw_check_v1, _v2 and _v2_32, and haythaw_checked.
+ * All else is as in 0.2, and a program that was built for 0.2 or 0.3 works with 0.4. */
 #define HAYTHAW_VERSION_MAJOR 0
-#define HAYTHAW_VERSION_MINOR 3
+#define HAYTHAW_VERSION_MINOR 4
 #define HAYTHAW_VERSION_PATCH 0
 
 #ifdef __cplusplus
@@ -76,7 +76,7 @@ enum haythaw_number {
     HAYTHAW_RGBA_SHORT = 2,    /* RGBA input is shorter than width x height x 4 */
     HAYTHAW_VIEW_NARROW = 3,   /* a view's luma stride is below its width, or its chroma stride below its chroma width */
     HAYTHAW_VIEW_SHORT = 4,    /* a view's plane is shorter than its stride x its plane height, however large that product */
-    HAYTHAW_SPLIT_LARGE = 5,   /* split: stride or rows is above 65,535, or W by the 32 rule */
+    HAYTHAW_SPLIT_LARGE = 5,   /* split, and a check of one: stride or rows is above 65,535, or W by the 32 rule */
     HAYTHAW_OUTPUT_SHORT = 6,  /* an output buffer is shorter than what would be written */
     HAYTHAW_LIST_UNEVEN = 7,   /* a list's length is not a multiple of 4, or its pairs are not two bytes for each rectangle */
     HAYTHAW_KIND_UNKNOWN = 8,  /* an AVC444 payload is of kind 3, or is to be written with a kind above 2 */
@@ -134,6 +134,24 @@ typedef struct haythaw_views {
     size_t luma_stride;
     size_t chroma_stride;
 } haythaw_views;
+
+/* Whether two views are the split of a picture. If they are, same is true, and nothing is named. If a sample is wrong, named is true, and
+ * the first wrong one is named: its view, its plane, and its row and column in that plane, counted from 0; in U and V, which have half of
+ * the view's columns and rows, those of the plane and not of the picture. If a size is wrong, same and named are both false. Where nothing
+ * is named, so too in a refusal, view, plane, row and column are 0; in a refusal same is false. It stands for a count that is always 0. */
+typedef struct haythaw_checked {
+    uint32_t number;
+    bool same;
+    bool named;
+    uint8_t view;
+    uint8_t plane;
+    uint16_t row;
+    uint16_t column;
+} haythaw_checked;
+
+/* What view and plane are in haythaw_checked. */
+enum haythaw_checked_view { HAYTHAW_VIEW_MAIN = 0, HAYTHAW_VIEW_AUXILIARY = 1 };
+enum haythaw_checked_plane { HAYTHAW_PLANE_Y = 0, HAYTHAW_PLANE_U = 1, HAYTHAW_PLANE_V = 2 };
 
 /* Where the parts of a stream are, in the caller's own payload: `count` rectangles of 8 bytes from `rects` on, as many pairs of
  * 2 bytes from `pairs` on, and `length` H.264 bytes from `data` on. The three starts count from the payload's first byte. Each
@@ -376,6 +394,59 @@ haythaw_views haythaw_split_v2_32(uint16_t width, uint16_t height, const uint8_t
                                   uint8_t *main_v, size_t main_v_count, uint8_t *auxiliary_y, size_t auxiliary_y_count,
                                   uint8_t *auxiliary_u, size_t auxiliary_u_count, uint8_t *auxiliary_v,
                                   size_t auxiliary_v_count);
+
+/* ---- Whether two views are a picture's split ----
+ *
+ * For an encoder's own splitter: its two views are held against the split of the picture that it was given, before H.264 touches them. A
+ * yes holds exactly where both views have the width and the height of the split's (stride by rows or, by the 32 rule, W by rows: what
+ * haythaw_split_* answers) and every sample of both is the split's, those of the picture's padding too. A view's strides are no sizes:
+ * they may be any that its planes have room for, and bytes between the width and the stride, and after the last row, are not looked at.
+ *
+ * The sizes of both views are looked at before any sample: where one is wrong, the answer is no, and nothing is named. Else the first wrong
+ * sample is named: the main view before the auxiliary, Y before U before V, then by row, and then by column. A caller can print
+ *
+ *     auxiliary view, U, row 3, column 17
+ *
+ * and beside it both values there: the view's from its own plane, and the right one from what haythaw_split_* writes (bind/c/check.c).
+ *
+ * All three answer 0, 1, 5, 3 or 4, in this order of refusals, where 3 and 4 are the main view's and, if it has neither, the auxiliary
+ * view's: so the main view's 4 comes before the auxiliary view's 3. The picture has no map here. They write nothing. */
+
+/* Against what haythaw_split_v1 writes: the auxiliary view is in the layout of AVC444 (V1). A width or height above 65,520 is refused
+ * with 5, also where the other is 0. */
+haythaw_checked haythaw_check_v1(uint16_t width, uint16_t height, const uint8_t *y, size_t y_count,
+                                 const uint8_t *u, size_t u_count, const uint8_t *v, size_t v_count,
+                                 uint16_t main_width, uint16_t main_height, size_t main_luma_stride, size_t main_chroma_stride,
+                                 const uint8_t *main_y, size_t main_y_count, const uint8_t *main_u, size_t main_u_count,
+                                 const uint8_t *main_v, size_t main_v_count,
+                                 uint16_t auxiliary_width, uint16_t auxiliary_height, size_t auxiliary_luma_stride,
+                                 size_t auxiliary_chroma_stride, const uint8_t *auxiliary_y, size_t auxiliary_y_count,
+                                 const uint8_t *auxiliary_u, size_t auxiliary_u_count,
+                                 const uint8_t *auxiliary_v, size_t auxiliary_v_count);
+
+/* Against what haythaw_split_v2 writes: the auxiliary view is in the layout of AVC444v2 (V2), by the 16 rule. Likewise 5 above 65,520. */
+haythaw_checked haythaw_check_v2(uint16_t width, uint16_t height, const uint8_t *y, size_t y_count,
+                                 const uint8_t *u, size_t u_count, const uint8_t *v, size_t v_count,
+                                 uint16_t main_width, uint16_t main_height, size_t main_luma_stride, size_t main_chroma_stride,
+                                 const uint8_t *main_y, size_t main_y_count, const uint8_t *main_u, size_t main_u_count,
+                                 const uint8_t *main_v, size_t main_v_count,
+                                 uint16_t auxiliary_width, uint16_t auxiliary_height, size_t auxiliary_luma_stride,
+                                 size_t auxiliary_chroma_stride, const uint8_t *auxiliary_y, size_t auxiliary_y_count,
+                                 const uint8_t *auxiliary_u, size_t auxiliary_u_count,
+                                 const uint8_t *auxiliary_v, size_t auxiliary_v_count);
+
+/* Against what haythaw_split_v2_32 writes, by the 32 rule: both views have to be W wide, the picture's width rounded up to 32, with Y 0,
+ * and U and V 128, past the stride. At a width of 48 a view that is 48 wide, as the stride is, has the wrong size. A width above 65,504 is
+ * refused with 5, and a height above 65,520. */
+haythaw_checked haythaw_check_v2_32(uint16_t width, uint16_t height, const uint8_t *y, size_t y_count,
+                                    const uint8_t *u, size_t u_count, const uint8_t *v, size_t v_count,
+                                    uint16_t main_width, uint16_t main_height, size_t main_luma_stride, size_t main_chroma_stride,
+                                    const uint8_t *main_y, size_t main_y_count, const uint8_t *main_u, size_t main_u_count,
+                                    const uint8_t *main_v, size_t main_v_count,
+                                    uint16_t auxiliary_width, uint16_t auxiliary_height, size_t auxiliary_luma_stride,
+                                    size_t auxiliary_chroma_stride, const uint8_t *auxiliary_y, size_t auxiliary_y_count,
+                                    const uint8_t *auxiliary_u, size_t auxiliary_u_count,
+                                    const uint8_t *auxiliary_v, size_t auxiliary_v_count);
 
 /* ---- A 4:2:0 view by itself ----
  *

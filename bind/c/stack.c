@@ -44,6 +44,9 @@ ALONE(do_first_unsound, haythaw_first_unsound(a->width, a->height, LENT(RECTS)))
 ALONE(do_split_v1, haythaw_split_v1(PLANES_ALONE, BOTH_VIEWS))
 ALONE(do_split_v2, haythaw_split_v2(PLANES_ALONE, BOTH_VIEWS))
 ALONE(do_split_v2_32, haythaw_split_v2_32(PLANES_ALONE, BOTH_VIEWS))
+ALONE(do_check_v1, haythaw_check_v1(PLANES_ALONE, BOTH_CHECKED))
+ALONE(do_check_v2, haythaw_check_v2(PLANES_ALONE, BOTH_CHECKED))
+ALONE(do_check_v2_32, haythaw_check_v2_32(PLANES_ALONE, BOTH_CHECKED))
 ALONE(do_view, haythaw_view(A_VIEW))
 ALONE(do_luma_row, haythaw_luma_row(A_VIEW, a->row))
 ALONE(do_u_row, haythaw_u_row(A_VIEW, a->row))
@@ -65,8 +68,9 @@ ALONE(do_map_size, haythaw_map_size(a->width, a->height))
 static void (*const alone[CALLS + 2])(const Args *) = {
     do_new, do_from_rgba, do_from_rgba_rust, do_to_rgba, do_main, do_aux_v1, do_aux_v2, do_aux_v2_32, do_aux_v2_exact, do_main_strict,
     do_aux_v1_strict, do_aux_v2_strict, do_aux_v2_32_strict, do_aux_v2_exact_strict, do_first_unsound, do_split_v1,
-    do_split_v2, do_split_v2_32, do_view, do_luma_row, do_u_row, do_v_row, do_view_to_rgba, do_is_avc, do_annex_b, do_read, do_luma_rectangle,
-    do_chroma_rectangle, do_luma_pair, do_chroma_pair, do_luma_rects, do_chroma_rects, do_write, do_allocation_size, do_map_size};
+    do_split_v2, do_split_v2_32, do_check_v1, do_check_v2, do_check_v2_32, do_view, do_luma_row, do_u_row, do_v_row, do_view_to_rgba, do_is_avc,
+    do_annex_b, do_read, do_luma_rectangle, do_chroma_rectangle, do_luma_pair, do_chroma_pair, do_luma_rects, do_chroma_rects, do_write,
+    do_allocation_size, do_map_size};
 
 static void on_its_own_stack(void)
 {
@@ -127,6 +131,31 @@ static Args of_size(uint16_t width, uint16_t height)
     return a;
 }
 
+/* What a call uses, by two paints. */
+static size_t used(enum call call, const Args *a)
+{
+    const size_t one = depth(call, a, 0xA5), two = depth(call, a, 0x3C);
+    return one > two ? one : two;
+}
+
+/* A check of the views that its own split has left, so that it goes to the end; and of these with their very last sample altered, which it
+ * has to find. */
+static size_t used_by_check(enum call call, Args a)
+{
+    const Result views = run((enum call)(call - CHECK_V1 + SPLIT_V1), &a);
+    for (int which = 0; which < BOTH; which++)
+        a.shape[which] = (Shape){views.width, views.height, views.luma_stride, views.chroma_stride};
+    uint8_t *const last = (uint8_t *)a.at[AUX_V] + views.chroma_stride * (views.height / 2u) - 1;
+    if (!run(call, &a).same)
+        exit(1);
+    const size_t yes = used(call, &a);
+    ++*last;
+    if (!run(call, &a).named)
+        exit(1);
+    const size_t no = used(call, &a);
+    return yes > no ? yes : no;
+}
+
 int main(void)
 {
     const Args tiny = of_size(2, 2), large = of_size(1920, 1080);
@@ -137,8 +166,7 @@ int main(void)
         for (int k = 0; k < 2; k++) {
             if (call < CALLS && run((enum call)call, sizes[k]).number != 0)
                 return 1;
-            const size_t one = depth((enum call)call, sizes[k], 0xA5), two = depth((enum call)call, sizes[k], 0x3C);
-            most[k] = one > two ? one : two;
+            most[k] = is_check((enum call)call) ? used_by_check((enum call)call, *sizes[k]) : used((enum call)call, sizes[k]);
         }
         printf("%-32s %10zu %10zu\n", call < CALLS ? call_names[call] : call == CALLS ? "allocation_size" : "map_size", most[0], most[1]);
     }

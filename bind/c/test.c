@@ -5,6 +5,7 @@
  * left out, where something was. The last line is `c: N checks, 0 wrong`, and the status is 1 where one is wrong. */
 #define _DEFAULT_SOURCE
 #include "test/by_hand.h"
+#include "test/checked.h"
 #include "test/edges.h"
 #include "test/far.h"
 #include "test/lengths.h"
@@ -137,6 +138,7 @@ int main(int words, char **word)
         longest_sides();
         width_rules();
         strict_lists();
+        checked_pairs();
         each_layout();
     }
     printf("c: %lu checks, %lu wrong\n", checks, wrong);

@@ -46,6 +46,12 @@ static bool is_split(enum call call, const Result *r, const Args *a)
            r->chroma_stride == r->width / 2u;
 }
 
+/* The answer of a check: a yes names nothing, and where nothing is named there is no place. */
+static bool is_checked(const Result *r)
+{
+    return r->named ? !r->same : r->view == 0 && r->plane == 0 && r->at_row == 0 && r->at_column == 0;
+}
+
 /* ---- what the self-test alters ---- */
 
 typedef struct { const char *name; size_t at; } Field;
@@ -64,7 +70,8 @@ static const Field *fields_of(int call)
         avc444[MOST_FIELDS + 1] = {FIELD(number), FIELD(kind), STREAM(luma), STREAM(chroma)},
         rectangle[MOST_FIELDS + 1] = {FIELD(number), FIELD(present), FIELD(left), FIELD(top), FIELD(right), FIELD(bottom)},
         pair[MOST_FIELDS + 1] = {FIELD(number), FIELD(present), FIELD(value), FIELD(reserved), FIELD(progressive), FIELD(quality)},
-        unsound[MOST_FIELDS + 1] = {FIELD(number), FIELD(present), FIELD(fault), FIELD(index)};
+        unsound[MOST_FIELDS + 1] = {FIELD(number), FIELD(present), FIELD(fault), FIELD(index)},
+        checked[MOST_FIELDS + 1] = {FIELD(number), FIELD(same), FIELD(named), FIELD(view), FIELD(plane), FIELD(at_row), FIELD(at_column)};
     switch (call) {
     case ALLOCATION_SIZE: return size;
     case IS_AVC: return yes;
@@ -76,6 +83,7 @@ static const Field *fields_of(int call)
     case LUMA_RECTANGLE: case CHROMA_RECTANGLE: return rectangle;
     case LUMA_PAIR: case CHROMA_PAIR: return pair;
     case FIRST_UNSOUND: return unsound;
+    case CHECK_V1: case CHECK_V2: case CHECK_V2_32: return checked;
     default: return number;
     }
 }
@@ -136,6 +144,8 @@ static Result asked(enum call call, const Args *a)
         check(is_refusal(&r, r.number), call_names[call], "more than a number is answered");
     else if (splits(call))
         check(is_split(call, &r, a), call_names[call], "the views' sizes and strides");
+    else if (is_check(call))
+        check(is_checked(&r), call_names[call], "what is named");
     if (r.number != 0)
         check(lent_kept(), call_names[call], "a refusal changed a byte");
     else

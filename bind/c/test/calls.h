@@ -7,7 +7,7 @@
 
 enum call {
     NEW, FROM_RGBA, FROM_RGBA_RUST, TO_RGBA, MAIN, AUX_V1, AUX_V2, AUX_V2_32, AUX_V2_EXACT, MAIN_STRICT, AUX_V1_STRICT, AUX_V2_STRICT,
-    AUX_V2_32_STRICT, AUX_V2_EXACT_STRICT, FIRST_UNSOUND, SPLIT_V1, SPLIT_V2, SPLIT_V2_32, VIEW,
+    AUX_V2_32_STRICT, AUX_V2_EXACT_STRICT, FIRST_UNSOUND, SPLIT_V1, SPLIT_V2, SPLIT_V2_32, CHECK_V1, CHECK_V2, CHECK_V2_32, VIEW,
     LUMA_ROW, U_ROW, V_ROW, VIEW_TO_RGBA, IS_AVC, ANNEX_B, READ, LUMA_RECTANGLE, CHROMA_RECTANGLE, LUMA_PAIR, CHROMA_PAIR, LUMA_RECTS, CHROMA_RECTS,
     WRITE, CALLS
 };
@@ -15,12 +15,18 @@ static const char *const call_names[CALLS] = {
     "new", "from_rgba", "from_rgba_rust", "to_rgba", "apply_main_view", "apply_auxiliary_v1", "apply_auxiliary_v2",
     "apply_auxiliary_v2_32", "apply_auxiliary_v2_exact", "apply_main_view_strict", "apply_auxiliary_v1_strict", "apply_auxiliary_v2_strict",
     "apply_auxiliary_v2_32_strict", "apply_auxiliary_v2_exact_strict", "first_unsound",
-    "split_v1", "split_v2", "split_v2_32", "view", "luma_row", "u_row", "v_row", "view_to_rgba",
+    "split_v1", "split_v2", "split_v2_32", "check_v1", "check_v2", "check_v2_32", "view", "luma_row", "u_row", "v_row", "view_to_rgba",
     "is_avc_format", "avc_to_annex_b", "avc444_read", "avc444_luma_rectangle", "avc444_chroma_rectangle", "avc444_luma_pair",
     "avc444_chroma_pair", "avc444_luma_rects", "avc444_chroma_rects", "avc444_write"};
 
-/* NUMBERS is the output of the two calls that write numbers of 16 bits. L_ and C_ are the parts of the luma and of the chroma stream
- * that a payload is written from. */
+/* Whether a call checks two views: what a split writes, it only reads. */
+static bool is_check(enum call call)
+{
+    return call >= CHECK_V1 && call <= CHECK_V2_32;
+}
+
+/* MAIN_ and AUX_ are the planes of both views: a split writes them, and a check reads them. NUMBERS is the output of the two calls that write
+ * numbers of 16 bits. L_ and C_ are the parts of the luma and of the chroma stream that a payload is written from. */
 enum slice {
     Y, U, V, RGBA, RECTS, VIEW_Y, VIEW_U, VIEW_V, OUT, DATA, MAIN_Y, MAIN_U, MAIN_V, AUX_Y, AUX_U, AUX_V, PAYLOAD, NUMBERS,
     L_RECTS, L_PAIRS, L_DATA, C_RECTS, C_PAIRS, C_DATA, MAP, SLICES
@@ -30,11 +36,16 @@ static const char *const slice_names[SLICES] = {"y", "u", "v", "rgba", "rects", 
                                                 "luma_rects", "luma_pairs", "luma_data", "chroma_rects", "chroma_pairs", "chroma_data",
                                                 "map"};
 
+/* The sizes and strides of a view that is checked. */
+enum { MAIN_VIEW, AUX_VIEW, BOTH };
+typedef struct { uint16_t width, height; size_t luma_stride, chroma_stride; } Shape;
+
 typedef struct {
     uint16_t width, height;                 /* of the picture */
     uint16_t left, top, right, bottom;      /* to_rgba's rectangle */
     uint16_t view_width, view_height;
     size_t luma_stride, chroma_stride, row; /* of the view */
+    Shape shape[BOTH];                      /* of the views that are checked */
     size_t i;                               /* which rectangle or pair of a stream */
     uint32_t kind;                          /* of the payload to be written */
     void *at[SLICES];
@@ -54,6 +65,9 @@ typedef struct {
     bool reserved, progressive;
     uint8_t fault;
     size_t index;
+    bool same, named;
+    uint8_t view, plane;
+    uint16_t at_row, at_column;
 } Result;
 
 #define LENT(slice) a->at[slice], a->count[slice]
@@ -62,6 +76,8 @@ typedef struct {
 #define A_VIEW \
     a->view_width, a->view_height, a->luma_stride, a->chroma_stride, LENT(VIEW_Y), LENT(VIEW_U), LENT(VIEW_V)
 #define BOTH_STREAMS LENT(L_RECTS), LENT(L_PAIRS), LENT(L_DATA), LENT(C_RECTS), LENT(C_PAIRS), LENT(C_DATA)
+#define SHAPE(which) a->shape[which].width, a->shape[which].height, a->shape[which].luma_stride, a->shape[which].chroma_stride
+#define BOTH_CHECKED SHAPE(MAIN_VIEW), LENT(MAIN_Y), LENT(MAIN_U), LENT(MAIN_V), SHAPE(AUX_VIEW), LENT(AUX_Y), LENT(AUX_U), LENT(AUX_V)
 #define BOTH_VIEWS LENT(MAIN_Y), LENT(MAIN_U), LENT(MAIN_V), LENT(AUX_Y), LENT(AUX_U), LENT(AUX_V)
 
 static Result of_number(uint32_t number)
@@ -147,6 +163,18 @@ static Result of_unsound(haythaw_unsound unsound)
     return r;
 }
 
+static Result of_checked(haythaw_checked checked)
+{
+    Result r = of_number(checked.number);
+    r.same = checked.same;
+    r.named = checked.named;
+    r.view = checked.view;
+    r.plane = checked.plane;
+    r.at_row = checked.row;
+    r.at_column = checked.column;
+    return r;
+}
+
 static Result of_bool(bool yes)
 {
     Result r = of_number(0);
@@ -175,6 +203,9 @@ static Result run(enum call call, const Args *a)
     case SPLIT_V1: return of_views(haythaw_split_v1(PLANES_ALONE, BOTH_VIEWS));
     case SPLIT_V2: return of_views(haythaw_split_v2(PLANES_ALONE, BOTH_VIEWS));
     case SPLIT_V2_32: return of_views(haythaw_split_v2_32(PLANES_ALONE, BOTH_VIEWS));
+    case CHECK_V1: return of_checked(haythaw_check_v1(PLANES_ALONE, BOTH_CHECKED));
+    case CHECK_V2: return of_checked(haythaw_check_v2(PLANES_ALONE, BOTH_CHECKED));
+    case CHECK_V2_32: return of_checked(haythaw_check_v2_32(PLANES_ALONE, BOTH_CHECKED));
     case VIEW: return of_number(haythaw_view(A_VIEW));
     case LUMA_ROW: return of_row(haythaw_luma_row(A_VIEW, a->row));
     case U_ROW: return of_row(haythaw_u_row(A_VIEW, a->row));

@@ -70,7 +70,8 @@ static bool is_refusal(const Result *r, uint32_t number)
     return r->number == number && !r->present && !r->yes && r->count == 0 && r->filtered_u == 0 && r->filtered_v == 0 && r->stale == 0 && r->start == 0 &&
            r->length == 0 && r->width == 0 && r->height == 0 && r->luma_stride == 0 && r->chroma_stride == 0 && r->kind == 0 &&
            same_stream(&r->luma, &none) && same_stream(&r->chroma, &none) && r->left == 0 && r->top == 0 && r->right == 0 &&
-           r->bottom == 0 && r->value == 0 && r->quality == 0 && !r->reserved && !r->progressive && r->fault == 0 && r->index == 0;
+           r->bottom == 0 && r->value == 0 && r->quality == 0 && !r->reserved && !r->progressive && r->fault == 0 && r->index == 0 && !r->same &&
+           !r->named && r->view == 0 && r->plane == 0 && r->at_row == 0 && r->at_column == 0;
 }
 
 static bool all_are(const uint8_t *bytes, size_t count, uint8_t value)

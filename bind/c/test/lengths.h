@@ -8,7 +8,7 @@
  *
  * The picture is 17x3: stride 32, rows 16, planes of 512 bytes, a map of 16 x 8, 17 x 3 x 4 = 204 bytes of RGBA, chroma of its views 16 x 8. The
  * rectangle of to_rgba is (1, 1, 17, 3): 16 x 2 x 4 = 128. The view is 5x3 with strides 7 and 4: 7 x 3, 4 x 2, RGBA 5 x 3 x 4. The
- * rectangles of the list are sound. */
+ * rectangles of the list are sound. The views that are checked are 32x16 by either rule, main with strides 33 and 17, auxiliary with 35 and 18. */
 typedef struct {
     enum slice slice;
     size_t exact;
@@ -19,6 +19,8 @@ typedef struct {
 #define THE_PICTURE PLANES, {MAP, 128, 1, 1}
 #define THE_VIEW {VIEW_Y, 21, 4, 4}, {VIEW_U, 8, 4, 4}, {VIEW_V, 8, 4, 4}
 #define THE_VIEWS {MAIN_Y, 512, 6, 6}, {MAIN_U, 128, 6, 6}, {MAIN_V, 128, 6, 6}, {AUX_Y, 512, 6, 6}, {AUX_U, 128, 6, 6}, {AUX_V, 128, 6, 6}
+
+#define THE_CHECKED {MAIN_Y, 528, 4, 4}, {MAIN_U, 136, 4, 4}, {MAIN_V, 136, 4, 4}, {AUX_Y, 560, 4, 4}, {AUX_U, 144, 4, 4}, {AUX_V, 144, 4, 4}
 
 /* The payload is kind 0, with one rectangle of luma and two of chroma, and ends in the second pair of chroma. A byte more is one of H.264. */
 #define THE_PAYLOAD {PAYLOAD, 45, 10, 9}
@@ -43,6 +45,9 @@ static const struct { size_t used; Need needs[9]; } needs[CALLS] = {
     [SPLIT_V1] = {9, {PLANES, THE_VIEWS}},
     [SPLIT_V2] = {9, {PLANES, THE_VIEWS}},
     [SPLIT_V2_32] = {9, {PLANES, THE_VIEWS}},
+    [CHECK_V1] = {9, {PLANES, THE_CHECKED}},
+    [CHECK_V2] = {9, {PLANES, THE_CHECKED}},
+    [CHECK_V2_32] = {9, {PLANES, THE_CHECKED}},
     [VIEW] = {3, {THE_VIEW}},
     [LUMA_ROW] = {3, {THE_VIEW}},
     [U_ROW] = {3, {THE_VIEW}},
@@ -82,6 +87,7 @@ static Args the_case(enum call call, const enum length *lengths)
     Args a = {0};
     a.width = 17, a.height = 3, a.left = 1, a.top = 1, a.right = 17, a.bottom = 3, a.row = 1;
     a.view_width = 5, a.view_height = 3, a.luma_stride = 7, a.chroma_stride = 4;
+    a.shape[MAIN_VIEW] = (Shape){32, 16, 33, 17}, a.shape[AUX_VIEW] = (Shape){32, 16, 35, 18};
     for (size_t k = 0; k < needs[call].used; k++) {
         const Need *need = &needs[call].needs[k];
         const size_t count = elements(need, lengths[k]);
@@ -113,7 +119,7 @@ static void with_lengths(enum call call, const enum length *lengths)
         check(r.number == 0 && r.count == counts[call], call_names[call], "number and count");
         for (size_t k = 0; k < needs[call].used; k++) {
             const Need *need = &needs[call].needs[k];
-            const bool only_read = need->slice == RECTS || need->slice == PAYLOAD;
+            const bool only_read = need->slice == RECTS || need->slice == PAYLOAD || is_check(call);
             check(kept_from(a.at[need->slice], only_read ? 0 : need->exact * element(need->slice)), call_names[call],
                   "a byte past what is written");
         }

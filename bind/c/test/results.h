@@ -316,6 +316,81 @@ static void result_of_split_32(void)
     check(views.number == HAYTHAW_SPLIT_LARGE && views.width == 0 && views.luma_stride == 0, "split_v2_32", "too wide");
 }
 
+/* A check of two views. */
+typedef haythaw_checked Checking(uint16_t, uint16_t, const uint8_t *, size_t, const uint8_t *, size_t, const uint8_t *, size_t, uint16_t, uint16_t,
+                                 size_t, size_t, const uint8_t *, size_t, const uint8_t *, size_t, const uint8_t *, size_t, uint16_t, uint16_t,
+                                 size_t, size_t, const uint8_t *, size_t, const uint8_t *, size_t, const uint8_t *, size_t);
+
+/* The views of the picture of 2 by 1 that result_of_split has, so wide: main and auxiliary, with Y, U and V each, and four strides that all
+ * differ. Past the stride of the picture, 16, a view by the 32 rule has Y 0, and U and V 128. */
+enum { PAIR_LUMA = 34 * 16, PAIR_CHROMA = 18 * 8 };
+typedef struct {
+    uint16_t wide;
+    size_t luma[2], chroma[2];
+    uint8_t y[2][PAIR_LUMA], u[2][PAIR_CHROMA], v[2][PAIR_CHROMA];
+} Pair;
+
+static Pair pair_of(uint16_t wide)
+{
+    Pair p = {wide, {wide + 1u, wide + 2u}, {wide / 2 + 1u, wide / 2 + 2u}, {{0}}, {{0}}, {{0}}};
+    for (size_t row = 0; row < 16 && wide == 32; row++)
+        for (size_t k = 0; k < 8; k++) {
+            p.y[1][row * p.luma[1] + 8 + k] = p.y[1][row * p.luma[1] + 24 + k] = 128;
+            p.u[0][row / 2 * p.chroma[0] + 8 + k] = p.v[0][row / 2 * p.chroma[0] + 8 + k] = 128;
+            p.u[1][row / 2 * p.chroma[1] + 4 + k % 4 + k / 4 * 8] = p.v[1][row / 2 * p.chroma[1] + 4 + k % 4 + k / 4 * 8] = 128;
+        }
+    p.y[0][15 * p.luma[0] + 15] = 1, p.u[0][0] = 2, p.v[0][0] = 5;
+    return p;
+}
+
+static haythaw_checked checked(Checking *call, const Pair *p, uint16_t auxiliary_width, size_t auxiliary_v_count)
+{
+    static uint8_t y[256], u[256], v[256];
+    y[255] = 1;
+    u[0] = 2, u[1] = 3, u[16] = 4;
+    v[0] = 5, v[1] = 6, v[16] = 7;
+    return call(2, 1, y, 256, u, 256, v, 256, p->wide, 16, p->luma[0], p->chroma[0], p->y[0], 16 * p->luma[0], p->u[0], 8 * p->chroma[0], p->v[0],
+                8 * p->chroma[0], auxiliary_width, 16, p->luma[1], p->chroma[1], p->y[1], 16 * p->luma[1], p->u[1], 8 * p->chroma[1], p->v[1],
+                auxiliary_v_count);
+}
+
+static bool none_named(haythaw_checked c)
+{
+    return !c.named && c.view == 0 && c.plane == 0 && c.row == 0 && c.column == 0;
+}
+
+/* A yes; the first sample of the auxiliary view's luma, and the last of its V; sizes; and a refusal. */
+static void result_of_check(Checking *call, Pair *p, const char *name)
+{
+    const size_t room = 8 * p->chroma[1], last = 7 * p->chroma[1] + p->wide / 2 - 1;
+    haythaw_checked answer = checked(call, p, p->wide, room);
+    check(answer.number == HAYTHAW_DONE && answer.same && none_named(answer), name, "yes");
+    answer = checked(call, p, p->wide, room - 1);
+    check(answer.number == HAYTHAW_VIEW_SHORT && !answer.same && none_named(answer), name, "a refusal");
+    p->v[1][last] ^= 1;
+    answer = checked(call, p, p->wide, room);
+    check(answer.number == HAYTHAW_DONE && !answer.same && answer.named && answer.view == HAYTHAW_VIEW_AUXILIARY &&
+              answer.plane == HAYTHAW_PLANE_V && answer.row == 7 && answer.column == p->wide / 2 - 1,
+          name, "the last sample");
+    p->y[1][0] ^= 1;
+    answer = checked(call, p, p->wide, room);
+    check(answer.named && answer.view == HAYTHAW_VIEW_AUXILIARY && answer.plane == HAYTHAW_PLANE_Y && answer.row == 0 && answer.column == 0, name,
+          "the first of two");
+    answer = checked(call, p, p->wide - 1u, room);
+    check(answer.number == HAYTHAW_DONE && !answer.same && none_named(answer), name, "a wrong size");
+}
+
+static void result_of_checks(void)
+{
+    Pair v1 = pair_of(16), v2 = pair_of(16), v2_32 = pair_of(32);
+    v1.y[1][0] = 4, v1.y[1][8 * v1.luma[1]] = 7, v1.u[1][0] = 3, v1.v[1][0] = 6;
+    v2.y[1][0] = 3, v2.y[1][8] = 6, v2.u[1][0] = 4, v2.u[1][4] = 7;
+    v2_32.y[1][0] = 3, v2_32.y[1][16] = 6, v2_32.u[1][0] = 4, v2_32.u[1][8] = 7;
+    result_of_check(haythaw_check_v1, &v1, "check_v1");
+    result_of_check(haythaw_check_v2, &v2, "check_v2");
+    result_of_check(haythaw_check_v2_32, &v2_32, "check_v2_32");
+}
+
 static void each_result_type(void)
 {
     result_of_view();
@@ -326,6 +401,7 @@ static void each_result_type(void)
     result_of_views_applied();
     result_of_split();
     result_of_split_32();
+    result_of_checks();
 }
 
 #endif

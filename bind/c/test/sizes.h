@@ -2,7 +2,7 @@
 #ifndef SIZES_H
 #define SIZES_H
 
-#include "check.h"
+#include "places.h"
 
 /* The number of a call by the table of numbers, said again. No product is made that could pass 64 bits. */
 static bool longer_than(size_t count, size_t stride, size_t rows)
@@ -28,14 +28,21 @@ static bool picture_short(const Args *a)
     return plane_short(a) || a->count[MAP] < up_to(a->width, 16) / 2 * (up_to(a->height, 16) / 2);
 }
 
+/* 3 or 4 of a view, of this shape and with planes of these lengths. */
+static uint32_t shape_number(const Shape *s, const size_t count[3])
+{
+    const size_t half_width = (s->width + 1u) / 2, half_height = (s->height + 1u) / 2;
+    if (s->luma_stride < s->width || s->chroma_stride < half_width)
+        return 3;
+    return longer_than(count[0], s->luma_stride, s->height) || longer_than(count[1], s->chroma_stride, half_height) ||
+                   longer_than(count[2], s->chroma_stride, half_height)
+               ? 4 : 0;
+}
+
 static uint32_t view_number(const Args *a)
 {
-    const size_t half_width = (a->view_width + 1u) / 2, half_height = (a->view_height + 1u) / 2;
-    if (a->luma_stride < a->view_width || a->chroma_stride < half_width)
-        return 3;
-    return longer_than(a->count[VIEW_Y], a->luma_stride, a->view_height) || longer_than(a->count[VIEW_U], a->chroma_stride, half_height) ||
-                   longer_than(a->count[VIEW_V], a->chroma_stride, half_height)
-               ? 4 : 0;
+    const Shape shape = {a->view_width, a->view_height, a->luma_stride, a->chroma_stride};
+    return shape_number(&shape, &a->count[VIEW_Y]);
 }
 
 /* The first fault of a rectangle: left not below right, top not below bottom, right above the width, bottom above the height; 0 of a sound one. */
@@ -76,16 +83,29 @@ static bool first_is(const Args *a, const Result *r)
            r->fault == (present ? fault_of(a, (const uint16_t *)a->at[RECTS] + 4 * index) : 0);
 }
 
+/* What a split and a check of one refuse of the picture. */
+static uint32_t split_picture_number(enum call call, const Args *a)
+{
+    return plane_short(a) ? 1 : wide_of(call, a) > 65535 || up_to(a->height, 16) > 65535 ? 5 : 0;
+}
+
 /* The views are as wide as the stride or, by the 32 rule, as the width rounded up to 32, which is never less. */
 static uint32_t split_number(enum call call, const Args *a)
 {
-    const size_t wide = up_to(a->width, call == SPLIT_V2_32 ? 32 : 16), rows = up_to(a->height, 16);
-    if (plane_short(a) || wide > 65535 || rows > 65535)
-        return plane_short(a) ? 1 : 5;
+    const size_t wide = wide_of(call, a), rows = up_to(a->height, 16);
+    if (split_picture_number(call, a) != 0)
+        return split_picture_number(call, a);
     for (int s = MAIN_Y; s <= AUX_V; s++)
         if (a->count[s] < (s == MAIN_Y || s == AUX_Y ? wide * rows : wide / 2 * (rows / 2)))
             return 6;
     return 0;
+}
+
+/* 1, 5, the main view's 3 and 4, the auxiliary view's 3 and 4. */
+static uint32_t check_number(enum call call, const Args *a)
+{
+    const uint32_t of_picture = split_picture_number(call, a), of_main = shape_number(&a->shape[MAIN_VIEW], &a->count[MAIN_Y]);
+    return of_picture != 0 ? of_picture : of_main != 0 ? of_main : shape_number(&a->shape[AUX_VIEW], &a->count[AUX_Y]);
 }
 
 static uint32_t the_number(enum call call, const Args *a)
@@ -98,6 +118,7 @@ static uint32_t the_number(enum call call, const Args *a)
     case MAIN_STRICT: case AUX_V1_STRICT: case AUX_V2_STRICT: case AUX_V2_32_STRICT: case AUX_V2_EXACT_STRICT: return apply_number(call, a);
     case FIRST_UNSOUND: return list_number(call, a);
     case SPLIT_V1: case SPLIT_V2: case SPLIT_V2_32: return split_number(call, a);
+    case CHECK_V1: case CHECK_V2: case CHECK_V2_32: return check_number(call, a);
     case VIEW_TO_RGBA:
         return view_number(a) != 0 ? view_number(a) : a->count[OUT] < (size_t)4 * a->view_width * a->view_height ? 6 : 0;
     case VIEW: case LUMA_ROW: case U_ROW: case V_ROW: return view_number(a);
@@ -113,6 +134,10 @@ static void by_table(enum call call, const Args *a, const char *what)
         check(is_refusal(&r, number) && lent_kept(), call_names[call], what);
     else if (call == FIRST_UNSOUND)
         check(first_is(a, &r) && lent_kept(), call_names[call], what);
+    else if (is_check(call)) {
+        const Result want = check_by_rule(call, a);
+        check(same_checked(&r, &want) && lent_kept(), call_names[call], what);
+    }
     else
         check(r.number == 0 && r.count == (call == TO_RGBA ? clipped(a) : call == VIEW_TO_RGBA ? (size_t)4 * a->view_width * a->view_height : 0),
               call_names[call], what);
@@ -126,6 +151,7 @@ static void picture_sizes(void)
     for (int none = 0; none < 2; none++) {
         Args a = {0};
         a.view_width = 5, a.view_height = 3, a.luma_stride = 7, a.chroma_stride = 4, a.right = 65535, a.bottom = 65535;
+        a.shape[MAIN_VIEW] = a.shape[AUX_VIEW] = (Shape){32, 16, 32, 16};
         for (int s = Y; s <= AUX_V && !none; s++)
             lend_as(&a, (enum slice)s, 512, NULL);
         if (!none)
@@ -133,7 +159,7 @@ static void picture_sizes(void)
         a.count[RECTS] /= 2;
         for (size_t i = 0; i < SIDES; i++)
             for (size_t j = 0; j < SIDES; j++)
-                for (int call = NEW; call <= SPLIT_V2_32; call++) {
+                for (int call = NEW; call <= CHECK_V2_32; call++) {
                     a.width = sides[i], a.height = sides[j];
                     by_table((enum call)call, &a, "a picture's size");
                 }
@@ -224,6 +250,8 @@ static void longest_sides(void)
         by_table(SPLIT_V1, &a, "the longest side");
         by_table(SPLIT_V2, &a, "the longest side");
         by_table(SPLIT_V2_32, &a, "the longest side");
+        for (int call = CHECK_V1; call <= CHECK_V2_32; call++)
+            by_table((enum call)call, &a, "the longest side");
         over(NEW);
     }
 }
