@@ -14,6 +14,7 @@
 #include "payload.h"
 #include "picture.h"
 #include "refusals.h"
+#include "refusals_check.h"
 #include "refusals_layouts.h"
 #include "refusals_picture.h"
 #include "refusals_split.h"
@@ -38,6 +39,7 @@ static const struct { const char *name; void (*lines)(void); unsigned long alter
     {"refusals_layouts", refusals_layouts, 0},
     {"refusals_split", refusals_split, 0},
     {"refusals_strict", refusals_strict, 0},
+    {"refusals_check", refusals_check, 0},
     {"agree_run", agree_run, 3},
 };
 
