@@ -5,6 +5,7 @@
 
 use core::fmt;
 
+use crate::check::{CheckedPlane, CheckedView, SplitCheck};
 use crate::decode::{DecoderError, DecoderResult, Yuv420Frame};
 use crate::geometry::{ExclusiveRectangle, RectangleFault, UnsoundRectangle};
 use crate::library::{self, Size};
@@ -90,6 +91,9 @@ type Applying = fn(Size, [&mut [u8]; 4], &[u16], library::View<'_>) -> u32;
 
 /// A call of the library that splits a picture: 0, 1, 5 or 6.
 type Splitting = fn(Size, [&[u8]; 3], [&mut [u8]; 3], [&mut [u8]; 3]) -> library::Views;
+
+/// A call of the library that checks two views against such a split: 0, 1, 5, 3 or 4.
+type Checking = fn(Size, [&[u8]; 3], library::View<'_>, library::View<'_>) -> library::Checked;
 
 impl Yuv444Frame {
     /// A black picture.
@@ -534,8 +538,85 @@ impl Yuv444Frame {
         match rule {
             WidthRule::To16 => self.split_by(library::split_v2, 16),
             WidthRule::To32 => self.split_by(library::split_v2_32, 32),
-            WidthRule::Exact => Err(DecoderError::msg("no picture is split by a width that is not rounded")),
+            WidthRule::Exact => Err(not_rounded()),
         }
+    }
+
+    /// Whether two views that someone else made are the [split](Self::split) of this picture, which the original has no call for.
+    ///
+    /// For an encoder of one's own: its two views are held against the split before H.264 touches them. It is a yes exactly where both have
+    /// the width and the height of the split's views and every sample is the split's, those of the padding too. Strides are no sizes, and
+    /// bytes between the width and the stride are not looked at. A no names the first wrong sample, or the view whose size is wrong.
+    ///
+    /// # Errors
+    ///
+    /// Where [`Self::split`] has none: when a side is above 65,520.
+    ///
+    /// ```
+    /// use haythaw::avc444::{Avc444Layout, Yuv444Frame};
+    /// use haythaw::check::SplitCheck;
+    /// use haythaw::decode::Yuv420Frame;
+    ///
+    /// let picture = Yuv444Frame::new(20, 2);
+    /// let (main, auxiliary) = picture.split(Avc444Layout::V1)?;
+    /// assert_eq!(picture.check_split(Avc444Layout::V1, &main, &auxiliary)?, SplitCheck::Same);
+    ///
+    /// // Another encoder's auxiliary view, 32 by 16, with a wrong sample in U and one in V.
+    /// let (mut u, mut v) = (vec![128; 16 * 8], vec![128; 16 * 8]);
+    /// u[3 * 16 + 9] = 130;
+    /// v[0] = 127;
+    /// let theirs = Yuv420Frame::new(32, 16, vec![128; 32 * 16], 32, u, v, 16)?;
+    /// let said = picture.check_split(Avc444Layout::V1, &main, &theirs)?;
+    /// assert!(!said.is_same());
+    /// assert_eq!(said.to_string(), "auxiliary view, U, row 3, column 9: 130, the split has 128");
+    /// # Ok::<(), haythaw::decode::DecoderError>(())
+    /// ```
+    pub fn check_split(
+        &self,
+        layout: Avc444Layout,
+        main: &Yuv420Frame,
+        auxiliary: &Yuv420Frame,
+    ) -> DecoderResult<SplitCheck> {
+        let check = match layout {
+            Avc444Layout::V1 => library::check_v1,
+            Avc444Layout::V2 => library::check_v2,
+        };
+        self.check_by(check, main, auxiliary, || self.split(layout))
+    }
+
+    /// The same for views of layout V2, by a rule for the width: whether they are what [`Self::split_v2`] makes.
+    ///
+    /// By [`WidthRule::To16`] it is [`Self::check_split`] with [`Avc444Layout::V2`].
+    ///
+    /// # Errors
+    ///
+    /// Where [`Self::split_v2`] has none: when a side is too long for it, and by [`WidthRule::Exact`] always.
+    ///
+    /// ```
+    /// use haythaw::avc444::{Avc444Layout, WidthRule, Yuv444Frame};
+    /// use haythaw::check::SplitCheck;
+    ///
+    /// // Views that were split by the one rule, where the other is asked for.
+    /// let picture = Yuv444Frame::new(48, 48);
+    /// let (main, auxiliary) = picture.split_v2(WidthRule::To16)?;
+    /// assert_eq!(picture.check_split_v2(WidthRule::To16, &main, &auxiliary)?, SplitCheck::Same);
+    /// let said = picture.check_split_v2(WidthRule::To32, &main, &auxiliary)?;
+    /// assert_eq!(said.to_string(), "main view is 48x48, the split's views are 64x48");
+    /// assert!(picture.check_split_v2(WidthRule::Exact, &main, &auxiliary).is_err());
+    /// # Ok::<(), haythaw::decode::DecoderError>(())
+    /// ```
+    pub fn check_split_v2(
+        &self,
+        rule: WidthRule,
+        main: &Yuv420Frame,
+        auxiliary: &Yuv420Frame,
+    ) -> DecoderResult<SplitCheck> {
+        let check = match rule {
+            WidthRule::To16 => library::check_v2,
+            WidthRule::To32 => library::check_v2_32,
+            WidthRule::Exact => return Err(not_rounded()),
+        };
+        self.check_by(check, main, auxiliary, || self.split_v2(rule))
     }
 
     /// A view by a strict call of the library, which refuses nothing but a list that is not sound.
@@ -563,13 +644,44 @@ impl Yuv444Frame {
         let views =
             split(size, planes, main.each_mut().map(Vec::as_mut_slice), auxiliary.each_mut().map(Vec::as_mut_slice));
         if views.number == 5 {
-            return Err(DecoderError::msg("padded AVC444 picture exceeds 65535 pixels"));
+            return Err(too_large());
         }
         library::done("split", views.number);
         let wrap = |[y, u, v]: [Vec<u8>; 3]| {
             Yuv420Frame::new(views.width, views.height, y, views.luma_stride, u, v, views.chroma_stride)
         };
         Ok((wrap(main)?, wrap(auxiliary)?))
+    }
+
+    /// Two views by a call of the library that checks them. The split itself is made only for a no, to say what would be right.
+    fn check_by(
+        &self,
+        check: Checking,
+        main: &Yuv420Frame,
+        auxiliary: &Yuv420Frame,
+        split: impl FnOnce() -> DecoderResult<(Yuv420Frame, Yuv420Frame)>,
+    ) -> DecoderResult<SplitCheck> {
+        let (size, planes) = self.lent();
+        let checked = check(size, planes, main.lent(), auxiliary.lent());
+        if checked.number == 5 {
+            return Err(too_large());
+        }
+        library::done("check_split", checked.number);
+        if checked.same {
+            return Ok(SplitCheck::Same);
+        }
+        let (right_main, right_auxiliary) = split()?;
+        if checked.named {
+            let (view, plane) = (CheckedView::of(checked.view), CheckedPlane::of(checked.plane));
+            let (row, column) = (checked.row, checked.column);
+            let found = plane.sample(view.among(main, auxiliary), row, column);
+            let expected = plane.sample(view.among(&right_main, &right_auxiliary), row, column);
+            return Ok(SplitCheck::Wrong { view, plane, row, column, found, expected });
+        }
+        let sizes = |view: &Yuv420Frame| (view.width(), view.height());
+        let expected = sizes(&right_main);
+        let view = if sizes(main) == expected { CheckedView::Auxiliary } else { CheckedView::Main };
+        Ok(SplitCheck::Sizes { view, found: sizes(view.among(main, auxiliary)), expected })
     }
 
     /// The picture that a call of the library makes of RGBA pixels.
@@ -608,6 +720,16 @@ impl Yuv444Frame {
     fn lent_mut(&mut self) -> (Size, [&mut [u8]; 4]) {
         (Size { width: self.width, height: self.height }, [&mut self.y, &mut self.u, &mut self.v, &mut self.map])
     }
+}
+
+/// A side of the picture is longer than a split's may be: in the original's words.
+fn too_large() -> DecoderError {
+    DecoderError::msg("padded AVC444 picture exceeds 65535 pixels")
+}
+
+/// By the rule Exact there is no split.
+fn not_rounded() -> DecoderError {
+    DecoderError::msg("no picture is split by a width that is not rounded")
 }
 
 impl fmt::Debug for Yuv444Frame {

@@ -6,6 +6,7 @@
 
 pub mod avc444;
 pub mod avc444_payload;
+pub mod check;
 pub mod decode;
 pub mod geometry;
 #[allow(unsafe_code)]
@@ -18,6 +19,7 @@ pub use crate::{
     avc444_payload::{
         Avc444Payload, PayloadKind, PayloadParts, QuantQuality, ReadError, Stream, StreamParts, WriteError,
     },
+    check::{CheckedPlane, CheckedView, SplitCheck},
     decode::{DecodedFrame, DecoderError, DecoderResult, Yuv420Frame},
     geometry::{ExclusiveRectangle, RectangleFault, UnsoundRectangle},
     pdu::{avc_to_annex_b_into, is_avc_format},
