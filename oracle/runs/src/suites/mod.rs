@@ -9,6 +9,7 @@ mod avc444_write;
 mod avc_format;
 mod average;
 mod bytes;
+mod check;
 mod filter;
 mod forward;
 pub(crate) mod from_rgba;
@@ -69,6 +70,9 @@ pub const SUITES: &[Suite] = &[
     split::V1_SUITE,
     split::V2_SUITE,
     split::V2_32_SUITE,
+    check::V1_SUITE,
+    check::V2_SUITE,
+    check::V2_32_SUITE,
     round_trip::SUITE,
     avc444::WRITE_SUITE,
     avc444::READ_SUITE,
@@ -132,6 +136,9 @@ pub const WEIGHINGS: &[Weighing] = &[
     split::V2_32_BYTES,
     split::V2_32_SMALL,
 ];
+
+/// The checks of two views against the split.
+pub const CHECKS: &[Weighing] = check::WEIGHINGS;
 
 /// The reader of the AVC444 payload against plain Rust.
 pub const PAYLOADS: &[Weighing] = &[

@@ -75,10 +75,10 @@ impl Outputs {
     }
 }
 
-/// The original's views: what their sizes and strides are, and their planes.
-struct Made {
-    views: Views,
-    planes: [Vec<u8>; 6],
+/// The original's views: what their sizes and strides are, and their planes, in the order of `Outputs`.
+pub struct Made {
+    pub views: Views,
+    pub planes: [Vec<u8>; 6],
 }
 
 impl Made {
@@ -155,8 +155,8 @@ impl<'a> Case<'a> {
     }
 }
 
-/// What the original makes of planes that are long enough.
-fn their_views(call: &Call, sizes: &Sizes, planes: [&[u8]; 3]) -> Result<Made, u32> {
+/// What the original makes of planes that are long enough. Refusals: 5.
+pub fn their_views(call: &Call, sizes: &Sizes, planes: [&[u8]; 3]) -> Result<Made, u32> {
     let Size { width, height } = sizes.size;
     let planes = planes.map(|plane| &plane[..sizes.plane()]);
     let picture = match call.wide(sizes) {

@@ -7,7 +7,7 @@ mod cases;
 
 use original::avc444::Avc444Layout;
 
-use self::case::{Call, Case};
+use self::case::Case;
 use super::pictures::Sizes;
 use super::views::{Source, LONGEST};
 use super::Suite;
@@ -15,11 +15,11 @@ use crate::ours;
 use crate::run::Run;
 
 pub use self::bench::{V1_BENCH, V1_SCALE, V2_32_BENCH, V2_32_BYTES, V2_32_SMALL, V2_BENCH, V2_SCALE};
-pub use self::case::Outputs;
+pub use self::case::{their_views, Call, Made, Outputs};
 
-const V1: Call = Call { ours: ours::split_v1, layout: Avc444Layout::V1, unit: 16 };
-const V2: Call = Call { ours: ours::split_v2, layout: Avc444Layout::V2, unit: 16 };
-const V2_32: Call = Call { ours: ours::split_v2_32, layout: Avc444Layout::V2, unit: 32 };
+pub const V1: Call = Call { ours: ours::split_v1, layout: Avc444Layout::V1, unit: 16 };
+pub const V2: Call = Call { ours: ours::split_v2, layout: Avc444Layout::V2, unit: 16 };
+pub const V2_32: Call = Call { ours: ours::split_v2_32, layout: Avc444Layout::V2, unit: 32 };
 
 pub const V1_SUITE: Suite = Suite {
     name: "split_v1",
