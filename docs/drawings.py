@@ -677,6 +677,60 @@ def draw_strict():
     return picture(536, 'Sound rectangles of a picture of 5x5, and the four faults', said, out)
 
 
+# --- check.svg: which sample of a pair that is not the split is named.
+
+PAIR_STRIDES = (18, 9)       # luma and chroma stride of both views, two columns and one more than they are wide
+UNLIKE = [('main', 'Y', 5, 16), ('main', 'U', 4, 1), ('main', 'U', 2, 6), ('main', 'V', 0, 3), ('auxiliary', 'Y', 0, 0)]
+
+
+def visible(part, size):
+    """check_pair/specs/Places.antt: the rows and columns of a view's plane."""
+    return size if part == 'Y' else (size[0] // 2, size[1] // 2)
+
+
+def first_wrong(unlike, size):
+    """Main before auxiliary, Y then U then V, by row and then column; what lies in the stride's padding is not looked at."""
+    return min((('main', 'auxiliary').index(view), 'YUV'.index(part), r, c) for view, part, r, c in unlike
+               if r < visible(part, size)[1] and c < visible(part, size)[0])
+
+
+def check_plane(x, y, view, part, size, first):
+    """One plane of one view: what was found right on the way, the sample that is named, others that are wrong, and padding."""
+    cell, (wide, high) = 13, visible(part, size)
+    before = lambda r, c: (('main', 'auxiliary').index(view), 'YUV'.index(part), r, c) < first
+    out = [text(x, y - 8, part, 14, font_weight='bold')]
+    for r in range(high):
+        for c in range(PAIR_STRIDES[part != 'Y']):
+            here = (view, part, r, c) in UNLIKE
+            named = here and (('main', 'auxiliary').index(view), 'YUV'.index(part), r, c) == first
+            fill = 'url(#padding)' if c >= wide else RED if named else ORANGE if here else '#cfeee2' if before(r, c) else '#ffffff'
+            out.append(box(x + cell * c, y + cell * r, cell, cell, fill, '#bbbbbb', 0.6))
+            if here:
+                out.append(text(x + cell * (c + 0.5), y + cell * r + 10.5, '≠', 12, 'middle', font_weight='bold', fill='white' if named else INK))
+    out.append(box(x, y, cell * wide, cell * high, 'none', INK, 1.4))
+    return out
+
+
+def draw_check():
+    size, out = (16, 16), [f'<defs>{hatch("padding", GREY, 5)}</defs>']
+    first = first_wrong(UNLIKE, size)
+    named = f'{("main", "auxiliary")[first[0]]} view, {"YUV"[first[1]]}, row {first[2]}, column {first[3]}'
+    for view, y in (('main', 84), ('auxiliary', 352)):
+        out.append(text(24, y - 28, f'{view} view', 15, font_weight='bold'))
+        for part, x in (('Y', 24), ('U', 300), ('V', 460)):
+            out += check_plane(x, y, view, part, size, first)
+    legend = [('#cfeee2', '', 'found right on the way'), (RED, '≠', 'wrong, and the first: this one is named'),
+              (ORANGE, '≠', 'wrong, and never named'), ('#ffffff', '', 'not looked at any more'), ('url(#padding)', '≠', 'padding of the stride: whatever it holds')]
+    for i, (fill, mark, words) in enumerate(legend):
+        out += [box(620, 84 + 26 * i, 16, 16, fill, '#999999', 0.8), text(628, 97 + 26 * i, mark, 12, 'middle', font_weight='bold', fill='white' if fill == RED else INK),
+                text(646, 97 + 26 * i, words)]
+    out.append(lines(620, 250, ['The order: main before auxiliary,', 'Y, then U, then V,', 'by row, and then by column.', '', 'The answer here:'], 13))
+    out.append(text(620, 344, named, 13, font_weight='bold'))
+    said = f'Two views of 16x16 with luma stride {PAIR_STRIDES[0]} and chroma stride {PAIR_STRIDES[1]}. Unlike the split: ' + '; '.join(
+        f'{view} {part} row {r} column {c}' + ('' if c < visible(part, size)[0] else ', which is padding') for view, part, r, c in UNLIKE) + f'. Named: {named}.'
+    return picture(580, 'The first wrong sample of another encoder’s pair', said, out)
+
+
 # --- payload.svg: the bytes of an AVC444 payload of kind 0, and what the other kinds carry.
 
 BYTE = 27
@@ -896,7 +950,7 @@ def draw_products():
 # --- The files.
 
 DRAWINGS = {'v1.svg': lambda: draw_layout(V1), 'v2.svg': lambda: draw_layout(V2), 'v2_width.svg': draw_v2_width, 'widening.svg': draw_widening,
-            'map.svg': draw_map, 'strict.svg': draw_strict,
+            'map.svg': draw_map, 'strict.svg': draw_strict, 'check.svg': draw_check,
             'payload.svg': draw_payload, 'filter.svg': draw_filter, 'products.svg': draw_products}
 
 
