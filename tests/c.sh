@@ -3,12 +3,13 @@
 # sanitizers and under valgrind, as far as these are at hand; compiles and runs the examples, the demo's program, and the header as
 # C++; and looks at what the library asks of the program that links it. It prints what ran, then the plain run's
 # `c: N checks, 0 wrong`. Status 1 if anything is wrong.
+#   HAYTHAW_PROCESSOR=x86-64-v3   the same over the library for such processors alone
 set -euo pipefail
 root=$(cd "$(dirname "${BASH_SOURCE[0]}")/.." && pwd -P)
 cd "$root"
 
 oracle/library.sh
-library=oracle/build/libhaythaw.a
+library=oracle/build/${HAYTHAW_PROCESSOR:+$HAYTHAW_PROCESSOR/}libhaythaw.a
 made=$(mktemp -d)
 trap 'rm -rf "$made"' EXIT
 strict=(-std=c99 -Wall -Wextra -Wpedantic -Werror -O1 -g)
@@ -78,6 +79,9 @@ for name in $asked; do
     *) echo "c: FAILED: the library asks for $name"; exit 1 ;;
     esac
 done
+# The version can be read off the file.
+version=$(awk '/^#define HAYTHAW_VERSION_/ { printf "%s%s", dot, $3; dot = "." }' bind/c/haythaw.h)
+grep -qaF "haythaw-version-$version" "$library" || { echo "c: FAILED: the library does not have the text haythaw-version-$version"; exit 1; }
 # It keeps nothing between calls: no symbol of data that is written.
 if nm "$library" | awk '$2 ~ /^[bBdDcC]$/ { found = 1; print } END { exit !found }'; then
     echo 'c: FAILED: the library has data that is written'

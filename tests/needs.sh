@@ -31,7 +31,7 @@ fresh() {
     cp "$root"/.ci/* "$tree/.ci/"
     cp "$root/demo" "$root/crates.txt" "$tree/"
     cp "$root"/oracle/{*.sh,retarget.py,calls.c} "$tree/oracle/"
-    cp "$root/bind/c/haythaw.h" "$tree/bind/c/"
+    cp "$root"/bind/c/haythaw{.h,_text.c} "$tree/bind/c/"
     cp "$root/bind/c/test/results.h" "$tree/bind/c/test/"
     cp "$root/tests/rust.sh" "$tree/tests/"
     : >"$tree/crates/haythaw/src/lib.rt"

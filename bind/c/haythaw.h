@@ -43,7 +43,8 @@
  *   stream    of such a payload: a count of 32 bits, that many rectangles of four numbers of 16 bits (left, top, right, bottom),
  *             that many pairs of a quantiser byte and a quality byte, and then its H.264 bytes, to the stream's end.
  *
- * Link with libhaythaw.a, which oracle/library.sh makes for this machine. It is for machines whose size_t has 64 bits.
+ * Link with libhaythaw: as `pkg-config --cflags --libs haythaw` says where it is installed, else with oracle/build/libhaythaw.a, which
+ * oracle/library.sh makes for this machine. It is for machines whose size_t has 64 bits.
  */
 #ifndef HAYTHAW_H
 #define HAYTHAW_H
@@ -195,6 +196,18 @@ typedef struct haythaw_pair {
     bool progressive;
     uint8_t quality;
 } haythaw_pair;
+
+/* ---- The library itself ----
+ *
+ * These two are C (bind/c/haythaw_text.c), not proved code: an object of their own beside the proved one. */
+
+/* The version of the library that was linked, major x 65,536 + minor x 256 + patch. HAYTHAW_VERSION_* are those of the header that was
+ * included. Never refuses. */
+uint32_t haythaw_version(void);
+
+/* A sentence in English for a number of the table, for a log, and one for any other number. It ends in 0, is never null, stays as it is
+ * and is not to be freed. */
+const char *haythaw_number_text(uint32_t number);
 
 /* A uint32_t result below is a number of the table and stands for a count that is always 0. */
 

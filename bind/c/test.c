@@ -14,6 +14,7 @@
 #include "test/results.h"
 #include "test/sizes.h"
 #include "test/strict.h"
+#include "test/text.h"
 #include "test/width.h"
 #include "test/wire.h"
 #include "test/write.h"
@@ -82,6 +83,7 @@ int main(int words, char **word)
     (void)word;
     trap();
     each_result_type();
+    texts();
     far_addresses();
     refused_far();
     off_of_every_pair();

@@ -391,8 +391,15 @@ static void result_of_checks(void)
     result_of_check(haythaw_check_v2_32, &v2_32, "check_v2_32");
 }
 
+static void result_of_text(void)
+{
+    check(haythaw_version() >= 3 * 256, "version", "a number");
+    check(strcmp(haythaw_number_text(HAYTHAW_DONE), "done") == 0, "number_text", "a text");
+}
+
 static void each_result_type(void)
 {
+    result_of_text();
     result_of_view();
     result_of_payload();
     result_of_avc444();
