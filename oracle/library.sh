@@ -71,7 +71,7 @@ try_calls() {
             return
         fi
     fi
-    "${cc[@]}" -Wall -Wextra -Werror -O1 "$oracle/calls.c" "$archive.new" -o "$place/calls"
+    "${cc[@]}" -Wall -Wextra -Werror -O1 -I"$root/bind/c" "$oracle/calls.c" "$archive.new" -o "$place/calls"
     "${run[@]}" "$place/calls" || fail "a call through the library failed (status $?)"
 }
 

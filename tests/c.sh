@@ -12,7 +12,7 @@ oracle/library.sh
 library=oracle/build/${HAYTHAW_PROCESSOR:+$HAYTHAW_PROCESSOR/}libhaythaw.a
 made=$(mktemp -d)
 trap 'rm -rf "$made"' EXIT
-strict=(-std=c99 -Wall -Wextra -Wpedantic -Werror -O1 -g)
+strict=(-std=c99 -Wall -Wextra -Wpedantic -Werror -O1 -g -Ibind/c)
 ran=() left=()
 
 # Runs a test whose last line has to end in ' 0 wrong', and shows what it left out; all that it said where it fails.
@@ -47,14 +47,15 @@ else
     left+=(valgrind)
 fi
 
-cc "${strict[@]}" bind/c/example.c "$library" -o "$made/example"
-[[ $("$made/example") == 'views of 16 x 16; 4 bytes, 0 pixels stale: 252 0 0' ]] || { echo 'c: FAILED: example.c'; exit 1; }
-cc "${strict[@]}" bind/c/payload.c "$library" -o "$made/payload"
-[[ $("$made/payload") == 'kind 0; luma 3 bytes at 18, chroma 2 bytes at 25; 4 numbers: 0 0 64 32' ]] || { echo 'c: FAILED: payload.c'; exit 1; }
-cc "${strict[@]}" bind/c/payload_write.c "$library" -o "$made/payload_write"
-[[ $("$made/payload_write") == '27 bytes of kind 0; luma 3 bytes at 18, chroma 2 bytes at 25' ]] || { echo 'c: FAILED: payload_write.c'; exit 1; }
-cc "${strict[@]}" bind/c/check.c "$library" -o "$made/check"
-[[ $("$made/check") == 'the views are the split of the picture'$'\n''auxiliary view, U, row 3, column 5: 100, the split has 99' ]] || { echo 'c: FAILED: check.c'; exit 1; }
+# What an example prints stands beside it.
+examples() { # NAME COMPILER...
+    local said
+    for said in bind/c/*.out; do
+        "${@:2}" "${said%.out}.c" -x none "$library" -o "$made/example"
+        "$made/example" | diff "$said" - || { echo "c: FAILED: ${said%.out}.c, $1"; exit 1; }
+    done
+}
+examples C cc "${strict[@]}"
 ran+=(examples)
 
 # The demo's program ends with 0 only if both layouts show the strip as it has to be.
@@ -66,10 +67,18 @@ ran+=(strip)
 if command -v c++ >/dev/null; then
     c++ -std=c++11 -Wall -Wextra -Wpedantic -Werror bind/c/header.cc "$library" -o "$made/header"
     "$made/header" || { echo 'c: FAILED: the header as C++'; exit 1; }
+    examples C++ c++ -std=c++11 -Wall -Wextra -Wpedantic -Werror -Ibind/c -x c++
     ran+=(C++)
 else
     left+=(C++)
 fi
+
+# An answer that is not looked at is warned of, and by a struct's call too; not where a program defines the word away.
+for call in 'haythaw_view(0, 0, 0, 0, 0, 0, 0, 0, 0, 0)' 'haythaw_avc444_read(0, 0)' 'haythaw_picture_new(0)'; do
+    printf '#include "haythaw_planes.h"\nvoid ignoring(void);\nvoid ignoring(void) { %s; }\n' "$call" >"$made/ignoring.c"
+    if cc "${strict[@]}" -c "$made/ignoring.c" -o "$made/ignoring.o" 2>/dev/null; then echo "c: FAILED: no warning of $call"; exit 1; fi
+    cc "${strict[@]}" -DHAYTHAW_MUST_USE= -c "$made/ignoring.c" -o "$made/ignoring.o"
+done
 
 # What the library takes from the C library: copies and fills, and nothing that allocates, prints, locks or ends the program.
 asked=$(nm -u "$library" | awk '$1 == "U" { print $2 }' | sort -u | tr '\n' ' ')

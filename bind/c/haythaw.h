@@ -64,6 +64,15 @@
 #define HAYTHAW_VERSION_MINOR 4
 #define HAYTHAW_VERSION_PATCH 0
 
+/* Before each call that answers a number: a compiler that can, warns where the answer is not looked at. A program may define it away. */
+#ifndef HAYTHAW_MUST_USE
+#ifdef __GNUC__
+#define HAYTHAW_MUST_USE __attribute__((warn_unused_result))
+#else
+#define HAYTHAW_MUST_USE
+#endif
+#endif
+
 #ifdef __cplusplus
 extern "C" {
 #endif
@@ -221,6 +230,7 @@ size_t haythaw_map_size(uint16_t width, uint16_t height);
 
 /* A fresh picture: Y 0, U and V 128, padding too, and a map of 0.
  * Answers 0 or 1. Writes the first stride x rows bytes of y, u and v and the first stride/2 x rows/2 of map; bytes after them stay. */
+HAYTHAW_MUST_USE
 uint32_t haythaw_new(uint16_t width, uint16_t height, uint8_t *y, size_t y_count, uint8_t *u, size_t u_count,
                      uint8_t *v, size_t v_count, uint8_t *map, size_t map_count);
 
@@ -231,6 +241,7 @@ uint32_t haythaw_new(uint16_t width, uint16_t height, uint8_t *y, size_t y_count
  * none is written. Alpha, and input after width x height x 4 bytes, is ignored. Its colour is whole: the map becomes 2.
  * Answers 0, 2 or 1, in this order of refusals. Writes the first stride x rows bytes of y, u and v and the first stride/2 x rows/2 of
  * map; bytes after them stay. */
+HAYTHAW_MUST_USE
 uint32_t haythaw_from_rgba(const uint8_t *rgba, size_t rgba_count, uint16_t width, uint16_t height,
                            uint8_t *y, size_t y_count, uint8_t *u, size_t u_count, uint8_t *v, size_t v_count,
                            uint8_t *map, size_t map_count);
@@ -239,6 +250,7 @@ uint32_t haythaw_from_rgba(const uint8_t *rgba, size_t rgba_count, uint16_t widt
  * last averages: those of the last column where the width is odd, and of the last row where the height is. Both calls agree where
  * both sides are multiples of 16.
  * Answers 0, 2 or 1, in this order of refusals. Writes what haythaw_from_rgba writes. */
+HAYTHAW_MUST_USE
 uint32_t haythaw_from_rgba_rust(const uint8_t *rgba, size_t rgba_count, uint16_t width, uint16_t height,
                                 uint8_t *y, size_t y_count, uint8_t *u, size_t u_count, uint8_t *v, size_t v_count,
                                 uint8_t *map, size_t map_count);
@@ -250,6 +262,7 @@ uint32_t haythaw_from_rgba_rust(const uint8_t *rgba, size_t rgba_count, uint16_t
  * whose byte of the map is not 2, and whose colour may be half old; the map is only read, and changes no pixel.
  * Answers 0, 1 or 6, in this order of refusals; the count is 4 x the clipped pixels. Writes the first count bytes of out; bytes
  * after them stay. */
+HAYTHAW_MUST_USE
 haythaw_pixels haythaw_to_rgba(uint16_t width, uint16_t height, const uint8_t *y, size_t y_count,
                                const uint8_t *u, size_t u_count, const uint8_t *v, size_t v_count,
                                const uint8_t *map, size_t map_count, uint16_t left, uint16_t top, uint16_t right, uint16_t bottom,
@@ -268,6 +281,7 @@ haythaw_pixels haythaw_to_rgba(uint16_t width, uint16_t height, const uint8_t *y
 /* The main view: Y within the rectangles, in rows of the picture and columns below the widened right edge; U and V within the
  * widened rectangles, each chroma sample at the places of its block that are below view_height and view_width. Every other
  * byte of y, u and v stays. */
+HAYTHAW_MUST_USE
 uint32_t haythaw_apply_main_view(uint16_t width, uint16_t height, uint8_t *y, size_t y_count, uint8_t *u, size_t u_count,
                                  uint8_t *v, size_t v_count, uint8_t *map, size_t map_count,
                                  const uint16_t *rects, size_t rects_count, uint16_t view_width, uint16_t view_height,
@@ -276,6 +290,7 @@ uint32_t haythaw_apply_main_view(uint16_t width, uint16_t height, uint8_t *y, si
 
 /* The auxiliary view of AVC444 (V1): within the widened rectangles, U and V at the three places of each block that the main
  * view has no sample of its own for. y is lent and never written; every other byte of u and v stays. */
+HAYTHAW_MUST_USE
 uint32_t haythaw_apply_auxiliary_v1(uint16_t width, uint16_t height, uint8_t *y, size_t y_count, uint8_t *u, size_t u_count,
                                     uint8_t *v, size_t v_count, uint8_t *map, size_t map_count,
                                     const uint16_t *rects, size_t rects_count, uint16_t view_width, uint16_t view_height,
@@ -285,6 +300,7 @@ uint32_t haythaw_apply_auxiliary_v1(uint16_t width, uint16_t height, uint8_t *y,
 /* The auxiliary view of AVC444v2 (V2): the same places, kept elsewhere in the view: V stands W/2 columns after U in its luma, and
  * W/4 columns after U in its chroma. W is view_width rounded up to 16 (the 16 rule). y is lent and never written; every other
  * byte of u and v stays. */
+HAYTHAW_MUST_USE
 uint32_t haythaw_apply_auxiliary_v2(uint16_t width, uint16_t height, uint8_t *y, size_t y_count, uint8_t *u, size_t u_count,
                                     uint8_t *v, size_t v_count, uint8_t *map, size_t map_count,
                                     const uint16_t *rects, size_t rects_count, uint16_t view_width, uint16_t view_height,
@@ -294,6 +310,7 @@ uint32_t haythaw_apply_auxiliary_v2(uint16_t width, uint16_t height, uint8_t *y,
 /* The same by the 32 rule, for servers that round the width of their surface up to 32: W is the picture's width rounded up to 32,
  * and view_width says only which samples the view has. W may be 65,536 here. At a width of 48, W is 64: of a view that is 64 wide
  * all is taken, and of one that is 48 wide the odd columns 1 to 31 and, in odd rows, the even columns 0 to 30. */
+HAYTHAW_MUST_USE
 uint32_t haythaw_apply_auxiliary_v2_32(uint16_t width, uint16_t height, uint8_t *y, size_t y_count, uint8_t *u, size_t u_count,
                                        uint8_t *v, size_t v_count, uint8_t *map, size_t map_count,
                                        const uint16_t *rects, size_t rects_count, uint16_t view_width, uint16_t view_height,
@@ -304,6 +321,7 @@ uint32_t haythaw_apply_auxiliary_v2_32(uint16_t width, uint16_t height, uint8_t 
  * samples the view has. Halves and quarters of W are rounded down: at a width of 66, V stands 33 columns after U in luma and 16
  * after it in chroma. Where the width is no multiple of 4, two samples share a place of the view, whichever of them the server
  * wrote there; so there is no split by this rule. Where the width is a multiple of 16 it is what the 16 rule is of a view that wide. */
+HAYTHAW_MUST_USE
 uint32_t haythaw_apply_auxiliary_v2_exact(uint16_t width, uint16_t height, uint8_t *y, size_t y_count,
                                           uint8_t *u, size_t u_count, uint8_t *v, size_t v_count, uint8_t *map, size_t map_count,
                                           const uint16_t *rects, size_t rects_count, uint16_t view_width, uint16_t view_height,
@@ -326,6 +344,7 @@ uint32_t haythaw_apply_auxiliary_v2_exact(uint16_t width, uint16_t height, uint8
  * All five answer 0, 1, 7, 12, 3 or 4, in this order of refusals. */
 
 /* haythaw_apply_main_view, strict. */
+HAYTHAW_MUST_USE
 uint32_t haythaw_apply_main_view_strict(uint16_t width, uint16_t height, uint8_t *y, size_t y_count,
                                         uint8_t *u, size_t u_count, uint8_t *v, size_t v_count, uint8_t *map, size_t map_count,
                                         const uint16_t *rects, size_t rects_count, uint16_t view_width, uint16_t view_height,
@@ -333,6 +352,7 @@ uint32_t haythaw_apply_main_view_strict(uint16_t width, uint16_t height, uint8_t
                                         const uint8_t *view_u, size_t view_u_count, const uint8_t *view_v, size_t view_v_count);
 
 /* haythaw_apply_auxiliary_v1, strict. */
+HAYTHAW_MUST_USE
 uint32_t haythaw_apply_auxiliary_v1_strict(uint16_t width, uint16_t height, uint8_t *y, size_t y_count,
                                            uint8_t *u, size_t u_count, uint8_t *v, size_t v_count, uint8_t *map, size_t map_count,
                                            const uint16_t *rects, size_t rects_count, uint16_t view_width, uint16_t view_height,
@@ -341,6 +361,7 @@ uint32_t haythaw_apply_auxiliary_v1_strict(uint16_t width, uint16_t height, uint
                                            const uint8_t *view_v, size_t view_v_count);
 
 /* haythaw_apply_auxiliary_v2, by the 16 rule, strict. */
+HAYTHAW_MUST_USE
 uint32_t haythaw_apply_auxiliary_v2_strict(uint16_t width, uint16_t height, uint8_t *y, size_t y_count,
                                            uint8_t *u, size_t u_count, uint8_t *v, size_t v_count, uint8_t *map, size_t map_count,
                                            const uint16_t *rects, size_t rects_count, uint16_t view_width, uint16_t view_height,
@@ -349,6 +370,7 @@ uint32_t haythaw_apply_auxiliary_v2_strict(uint16_t width, uint16_t height, uint
                                            const uint8_t *view_v, size_t view_v_count);
 
 /* haythaw_apply_auxiliary_v2_32, by the 32 rule, strict. */
+HAYTHAW_MUST_USE
 uint32_t haythaw_apply_auxiliary_v2_32_strict(uint16_t width, uint16_t height, uint8_t *y, size_t y_count,
                                               uint8_t *u, size_t u_count, uint8_t *v, size_t v_count,
                                               uint8_t *map, size_t map_count, const uint16_t *rects, size_t rects_count,
@@ -357,6 +379,7 @@ uint32_t haythaw_apply_auxiliary_v2_32_strict(uint16_t width, uint16_t height, u
                                               size_t view_u_count, const uint8_t *view_v, size_t view_v_count);
 
 /* haythaw_apply_auxiliary_v2_exact, by the rule Exact, strict. */
+HAYTHAW_MUST_USE
 uint32_t haythaw_apply_auxiliary_v2_exact_strict(uint16_t width, uint16_t height, uint8_t *y, size_t y_count,
                                                  uint8_t *u, size_t u_count, uint8_t *v, size_t v_count,
                                                  uint8_t *map, size_t map_count, const uint16_t *rects, size_t rects_count,
@@ -368,6 +391,7 @@ uint32_t haythaw_apply_auxiliary_v2_exact_strict(uint16_t width, uint16_t height
 /* Which rectangle it was, for a log: the first of a list that is not sound in a picture of this size. It looks at the list alone, so it
  * may be asked after a 12, and beside the calls that clip.
  * Answers 0 or 7. Writes nothing. */
+HAYTHAW_MUST_USE
 haythaw_unsound haythaw_first_unsound(uint16_t width, uint16_t height, const uint16_t *rects, size_t rects_count);
 
 /* ---- A picture into its two views ----
@@ -379,6 +403,7 @@ haythaw_unsound haythaw_first_unsound(uint16_t width, uint16_t height, const uin
  * the stride. */
 
 /* The auxiliary view in the layout of AVC444 (V1). */
+HAYTHAW_MUST_USE
 haythaw_views haythaw_split_v1(uint16_t width, uint16_t height, const uint8_t *y, size_t y_count,
                                const uint8_t *u, size_t u_count, const uint8_t *v, size_t v_count,
                                uint8_t *main_y, size_t main_y_count, uint8_t *main_u, size_t main_u_count,
@@ -387,6 +412,7 @@ haythaw_views haythaw_split_v1(uint16_t width, uint16_t height, const uint8_t *y
                                size_t auxiliary_v_count);
 
 /* The auxiliary view in the layout of AVC444v2 (V2), by the 16 rule: both views are as wide as the stride. */
+HAYTHAW_MUST_USE
 haythaw_views haythaw_split_v2(uint16_t width, uint16_t height, const uint8_t *y, size_t y_count,
                                const uint8_t *u, size_t u_count, const uint8_t *v, size_t v_count,
                                uint8_t *main_y, size_t main_y_count, uint8_t *main_u, size_t main_u_count,
@@ -401,6 +427,7 @@ haythaw_views haythaw_split_v2(uint16_t width, uint16_t height, const uint8_t *y
  * Answers 0, 1, 5 or 6, in this order of refusals; 5 also where W is above 65,535, so that a width of 65,504 splits and 65,505 does
  * not, at height 0 too. Writes the first W x rows bytes of main_y and auxiliary_y and the first W/2 x rows/2 bytes of main_u,
  * main_v, auxiliary_u and auxiliary_v, every one; bytes after them stay. The answer has W for width and luma_stride. */
+HAYTHAW_MUST_USE
 haythaw_views haythaw_split_v2_32(uint16_t width, uint16_t height, const uint8_t *y, size_t y_count,
                                   const uint8_t *u, size_t u_count, const uint8_t *v, size_t v_count,
                                   uint8_t *main_y, size_t main_y_count, uint8_t *main_u, size_t main_u_count,
@@ -466,18 +493,22 @@ haythaw_checked haythaw_check_v2_32(uint16_t width, uint16_t height, const uint8
  * All of these refuse with 3 or 4, in this order, and only read the view. */
 
 /* Whether these sizes and planes are a view. Answers 0, 3 or 4. Writes nothing. */
+HAYTHAW_MUST_USE
 uint32_t haythaw_view(uint16_t view_width, uint16_t view_height, size_t luma_stride, size_t chroma_stride,
                       const uint8_t *view_y, size_t view_y_count, const uint8_t *view_u, size_t view_u_count,
                       const uint8_t *view_v, size_t view_v_count);
 
 /* Where a row is: of luma in view_y, of U in view_u, of V in view_v. Luma has view_height rows of view_width bytes; U and V have
  * half of both, rounded up. Answers 0, 3 or 4; any row number may be asked for. Writes nothing. */
+HAYTHAW_MUST_USE
 haythaw_row haythaw_luma_row(uint16_t view_width, uint16_t view_height, size_t luma_stride, size_t chroma_stride,
                              const uint8_t *view_y, size_t view_y_count, const uint8_t *view_u, size_t view_u_count,
                              const uint8_t *view_v, size_t view_v_count, size_t row);
+HAYTHAW_MUST_USE
 haythaw_row haythaw_u_row(uint16_t view_width, uint16_t view_height, size_t luma_stride, size_t chroma_stride,
                           const uint8_t *view_y, size_t view_y_count, const uint8_t *view_u, size_t view_u_count,
                           const uint8_t *view_v, size_t view_v_count, size_t row);
+HAYTHAW_MUST_USE
 haythaw_row haythaw_v_row(uint16_t view_width, uint16_t view_height, size_t luma_stride, size_t chroma_stride,
                           const uint8_t *view_y, size_t view_y_count, const uint8_t *view_u, size_t view_u_count,
                           const uint8_t *view_v, size_t view_v_count, size_t row);
@@ -485,6 +516,7 @@ haythaw_row haythaw_v_row(uint16_t view_width, uint16_t view_height, size_t luma
 /* The view as RGBA, alpha 255, with the chroma of row/2, column/2 and no filter.
  * Answers 0, 3, 4 or 6, in this order of refusals; the count is 4 x view_width x view_height. Writes the first count bytes of
  * out; bytes after them stay. */
+HAYTHAW_MUST_USE
 haythaw_answer haythaw_view_to_rgba(uint16_t view_width, uint16_t view_height, size_t luma_stride, size_t chroma_stride,
                                     const uint8_t *view_y, size_t view_y_count, const uint8_t *view_u, size_t view_u_count,
                                     const uint8_t *view_v, size_t view_v_count, uint8_t *out, size_t out_count);
@@ -502,21 +534,28 @@ haythaw_answer haythaw_view_to_rgba(uint16_t view_width, uint16_t view_height, s
 
 /* Which streams a payload carries, and where their parts are in it.
  * Answers 0, 9, 8 or 10, in the order above. Writes nothing. */
+HAYTHAW_MUST_USE
 haythaw_avc444 haythaw_avc444_read(const uint8_t *payload, size_t payload_count);
 
 /* Rectangle i of the luma stream and of the chroma stream, counted from 0: present where i is below the stream's count.
  * Answer 0, 9, 8 or 10, in the order above; any i may be asked for. Write nothing. */
+HAYTHAW_MUST_USE
 haythaw_rectangle haythaw_avc444_luma_rectangle(const uint8_t *payload, size_t payload_count, size_t i);
+HAYTHAW_MUST_USE
 haythaw_rectangle haythaw_avc444_chroma_rectangle(const uint8_t *payload, size_t payload_count, size_t i);
 
 /* Pair i of the luma stream and of the chroma stream, likewise. */
+HAYTHAW_MUST_USE
 haythaw_pair haythaw_avc444_luma_pair(const uint8_t *payload, size_t payload_count, size_t i);
+HAYTHAW_MUST_USE
 haythaw_pair haythaw_avc444_chroma_pair(const uint8_t *payload, size_t payload_count, size_t i);
 
 /* All rectangles of the luma stream and of the chroma stream as a list, which the calls that apply a view take.
  * Answer 0, the refusals above in their order, then 6; the count is the numbers written, 4 x the stream's count, so 0 for a stream
  * that is not carried. Write the first count numbers of out; numbers after them stay. */
+HAYTHAW_MUST_USE
 haythaw_answer haythaw_avc444_luma_rects(const uint8_t *payload, size_t payload_count, uint16_t *out, size_t out_count);
+HAYTHAW_MUST_USE
 haythaw_answer haythaw_avc444_chroma_rects(const uint8_t *payload, size_t payload_count, uint16_t *out, size_t out_count);
 
 /* ---- The AVC444 payload, written ---- */
@@ -529,6 +568,7 @@ haythaw_answer haythaw_avc444_chroma_rects(const uint8_t *payload, size_t payloa
  * each rectangle; 11 when the first stream that is carried, its count, rectangles and pairs included, is 2^30 bytes or longer, or a
  * list that is carried has 2^32 rectangles or more; then 6. The second stream of kind 0 may have more than 2^30 bytes.
  * Answers 0, 8, 7, 11 or 6; the count is the payload's bytes. Writes the first count bytes of out; bytes after them stay. */
+HAYTHAW_MUST_USE
 haythaw_answer haythaw_avc444_write(uint32_t kind, const uint16_t *luma_rects, size_t luma_rects_count,
                                     const uint8_t *luma_pairs, size_t luma_pairs_count,
                                     const uint8_t *luma_data, size_t luma_data_count,
@@ -545,6 +585,7 @@ bool haythaw_is_avc_format(const uint8_t *data, size_t data_count);
 /* The units of a length-prefixed payload, each behind 00 00 00 01 in place of its length. It stops at a unit that runs past the
  * end, or at fewer than 4 bytes, and writes what came before. The output is never longer than the input.
  * Answers 0 or 6; the count is the bytes written. Writes the first count bytes of out; bytes after them stay. */
+HAYTHAW_MUST_USE
 haythaw_answer haythaw_avc_to_annex_b(const uint8_t *data, size_t data_count, uint8_t *out, size_t out_count);
 
 #ifdef __cplusplus

@@ -10,6 +10,7 @@
 #include <string.h>
 #include <ucontext.h>
 
+#define HAYTHAW_MUST_USE /* how a call went is not looked at here */
 #include "test/calls.h"
 
 enum { STACK = 1 << 18 };

@@ -11,6 +11,7 @@
 #include "test/lengths.h"
 #include "test/map.h"
 #include "test/off.h"
+#include "test/planes.h"
 #include "test/results.h"
 #include "test/sizes.h"
 #include "test/strict.h"
@@ -84,6 +85,7 @@ int main(int words, char **word)
     trap();
     each_result_type();
     texts();
+    planes_by_structs();
     far_addresses();
     refused_far();
     off_of_every_pair();

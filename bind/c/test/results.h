@@ -6,7 +6,7 @@
 
 #include <string.h>
 
-#include "../haythaw.h"
+#include "haythaw.h"
 
 static void check(bool holds, const char *call, const char *what);
 
@@ -174,7 +174,8 @@ static void result_of_v1(Applying *apply, const char *name)
           name, "a refusal");
     check(apply(2, 2, p.y, 256, p.u, 256, p.v, 256, p.map, 64, two_by_two, 4, 2, 9, 2, 1, rows, 18, odd_u, 5, odd_v, 5) == HAYTHAW_DONE,
           name, "a number");
-    is_left(&p, (const uint8_t[]){13, 11, 12}, (const uint8_t[]){23, 21, 22}, name);
+    const uint8_t left_u[] = {13, 11, 12}, left_v[] = {23, 21, 22};
+    is_left(&p, left_u, left_v, name);
 }
 
 /* V2: in a view of 9 by 2, which counts as 16 wide, V stands 8 columns after U in luma and 4 in chroma. */
@@ -188,7 +189,8 @@ static void result_of_v2(Applying *apply, const char *name)
           name, "a refusal");
     check(apply(2, 2, p.y, 256, p.u, 256, p.v, 256, p.map, 64, two_by_two, 4, 9, 2, 9, 5, columns, 18, fourths_u, 5, fourths_v, 5) == HAYTHAW_DONE,
           name, "a number");
-    is_left(&p, (const uint8_t[]){31, 33, 32}, (const uint8_t[]){41, 43, 42}, name);
+    const uint8_t left_u[] = {31, 33, 32}, left_v[] = {41, 43, 42};
+    is_left(&p, left_u, left_v, name);
 }
 
 /* V2 by the 32 rule: a picture of 2 counts as 32 wide, so V stands 16 columns after U in luma and 8 in chroma, of a view of 17 by 2. */
@@ -201,7 +203,8 @@ static void result_of_v2_32(Applying *apply, const char *name)
           name, "a refusal");
     check(apply(2, 2, p.y, 256, p.u, 256, p.v, 256, p.map, 64, two_by_two, 4, 17, 2, 17, 9, wide, 34, wide_u, 9, wide_v, 9) == HAYTHAW_DONE,
           name, "a number");
-    is_left(&p, (const uint8_t[]){51, 53, 52}, (const uint8_t[]){61, 63, 62}, name);
+    const uint8_t left_u[] = {51, 53, 52}, left_v[] = {61, 63, 62};
+    is_left(&p, left_u, left_v, name);
 }
 
 /* V2 by the rule Exact: a picture of 2 is 2 wide, so V stands a column after U in luma, and both stand in one place in chroma. */
@@ -213,7 +216,8 @@ static void result_of_v2_exact(Applying *apply, const char *name)
           name, "a refusal");
     check(apply(2, 2, p.y, 256, p.u, 256, p.v, 256, p.map, 64, two_by_two, 4, 2, 2, 2, 1, own, 4, own_u, 1, own_v, 1) == HAYTHAW_DONE,
           name, "a number");
-    is_left(&p, (const uint8_t[]){71, 73, 72}, (const uint8_t[]){81, 73, 82}, name);
+    const uint8_t left_u[] = {71, 73, 72}, left_v[] = {81, 73, 82};
+    is_left(&p, left_u, left_v, name);
 }
 
 /* What the strict calls alone refuse, in a picture of 2 by 2: the second rectangle's right is above the width. A view of 32 by 16 has all that
