@@ -4,9 +4,24 @@
 # C++; and looks at what the library asks of the program that links it. It prints what ran, then the plain run's
 # `c: N checks, 0 wrong`. Status 1 if anything is wrong.
 #   HAYTHAW_PROCESSOR=x86-64-v3   the same over the library for such processors alone
+#   --v3                          over that one, but for the sanitizers and valgrind, where this processor is such a one
 set -euo pipefail
 root=$(cd "$(dirname "${BASH_SOURCE[0]}")/.." && pwd -P)
 cd "$root"
+
+watched=yes
+case ${1:-} in
+'') ;;
+--v3)
+    if [[ $(uname -m) != x86_64 ]] || ! grep -qw avx2 /proc/cpuinfo; then
+        echo 'not tested: the library for x86-64-v3: this processor has no AVX2'
+        exit 0
+    fi
+    export HAYTHAW_PROCESSOR=x86-64-v3
+    watched=no
+    ;;
+*) echo 'usage: tests/c.sh [--v3]' >&2; exit 2 ;;
+esac
 
 oracle/library.sh
 library=oracle/build/${HAYTHAW_PROCESSOR:+$HAYTHAW_PROCESSOR/}libhaythaw.a
@@ -34,14 +49,18 @@ verdict=$(tail -n 1 "$made/said")
 
 sanitizers=(-fsanitize=address,undefined -fno-sanitize-recover=all)
 echo 'int main(void) { return 0; }' >"$made/empty.c"
-if cc "${sanitizers[@]}" "$made/empty.c" -o "$made/empty" 2>/dev/null && "$made/empty"; then
+if [[ $watched == no ]]; then
+    :
+elif cc "${sanitizers[@]}" "$made/empty.c" -o "$made/empty" 2>/dev/null && "$made/empty"; then
     cc "${strict[@]}" "${sanitizers[@]}" bind/c/test.c "$library" -o "$made/sanitized"
     passes sanitizers "$made/sanitized"
 else
     left+=(sanitizers)
 fi
 
-if command -v valgrind >/dev/null; then
+if [[ $watched == no ]]; then
+    :
+elif command -v valgrind >/dev/null; then
     passes valgrind valgrind -q --error-exitcode=9 --leak-check=full "$made/test" heap
 else
     left+=(valgrind)

@@ -1,5 +1,5 @@
 #!/usr/bin/env bash
-# .ci/needs, and .ci/run, ./demo and oracle/library.sh, which ask it: whatever is taken away is missed, in one line, before anything runs; and
+# .ci/needs, and .ci/run, ./demo, oracle/library.sh and ./dist, which ask it: whatever is taken away is missed, in one line, before anything runs; and
 # what fails on a full disk, or in a tree that cannot be written to, is never called unproved. They run in a copy of the tree, with a
 # path of links that each case takes something from, and with stand-ins for rt and for all that the gate runs.
 # The last line is `needs: N checks, 0 wrong`; status 1 if one is wrong.
@@ -29,7 +29,7 @@ fresh() {
     rm -rf "$tree" "$bin"
     mkdir -p "$tree/.ci" "$tree/oracle" "$tree/tests" "$tree/bind/c/test" "$tree/crates/haythaw/src" "$bin"
     cp "$root"/.ci/* "$tree/.ci/"
-    cp "$root/demo" "$root/crates.txt" "$tree/"
+    cp "$root/demo" "$root/dist" "$root/crates.txt" "$tree/"
     cp "$root"/oracle/{*.sh,retarget.py,calls.c} "$tree/oracle/"
     cp "$root"/bind/c/haythaw{.h,_text.c} "$tree/bind/c/"
     cp "$root/bind/c/test/results.h" "$tree/bind/c/test/"
@@ -42,7 +42,7 @@ fresh() {
         ln -s "$place" "$bin/$one"
     done
     stand_in "$bin/uname" 'echo x86_64'
-    for one in python3 cc cargo; do stand_in "$bin/$one" 'exit 0'; done
+    for one in python3 cc cargo git tar gzip; do stand_in "$bin/$one" 'exit 0'; done
     # all that the gate runs, but rust.sh, which is tried itself
     while IFS= read -r one; do stand_in "$tree/$one" "echo 'ran ${one##*/}'"; done < <(grep -oE '\b(tests|docs)/[a-z_]+\.(py|sh)' "$root/.ci/run" | grep -v rust.sh | sort -u)
     rt_ends 0 '3 passed, 0 failed'
@@ -73,7 +73,7 @@ says() { [[ $status -eq $1 && $(lines "$2") -ge 1 ]]; } # STATUS PATTERN
 
 # With everything at hand nobody misses anything.
 fresh
-for who in gate demo library; do runs .ci/needs $who && check "$who has all" answers 0 0; done
+for who in gate demo library dist; do runs .ci/needs $who && check "$who has all" answers 0 0; done
 runs .ci/needs after && check 'after nothing' answers 0 0
 for word in --help -h; do runs .ci/needs $word && check "$word" says 0 '^usage: '; done
 for words in '' other 'gate gate'; do
@@ -87,10 +87,12 @@ misses() { # WHO COMMAND STATUS LINES
     rm "$bin/$2"
     runs .ci/needs "$1" && check "$1 without $2" answers "$3" "$4" "there is no command $2[,:]"
 }
-for who in gate demo library; do
+for who in gate demo library dist; do
     misses $who rt 1 1
     misses $who bash 1 1
 done
+for one in python3 git tar gzip; do misses dist $one 1 1; done
+misses dist cc 0 0
 misses gate python3 1 1
 misses gate cc 0 1
 misses gate cargo 0 1
@@ -122,7 +124,7 @@ runs .ci/needs library && check 'rt does not run' answers 1 1 'rt does not run.*
 disk_has() { stand_in "$bin/df" 'echo head' "echo disk 1 1 $(($1 * 1024)) 1% /"; } # MEGABYTES
 fresh
 disk_has 10
-for who in gate demo library; do runs .ci/needs $who && check "$who on a full disk" answers 1 2 '10 MB are free for '; done
+for who in gate demo library dist; do runs .ci/needs $who && check "$who on a full disk" answers 1 2 '10 MB are free for '; done
 runs .ci/needs after && check 'after, on a full disk' answers 1 2 '10 MB are free for '
 disk_has 900
 runs .ci/needs gate && check 'too little for the gate' answers 1 1 '900 MB are free for .*: 1200 are needed'
@@ -135,7 +137,7 @@ fresh
 temporary=$made/none runs .ci/needs gate && check 'no temporary folder' answers 1 1 'there is no folder .*none'
 if [[ ${#as[@]} -eq 0 ]] || "${as[@]}" "$tree/.ci/needs" --help >/dev/null 2>&1; then
     mkdir "$tree/target" && chmod 555 "$tree/target"
-    for who in gate demo library after; do
+    for who in gate demo library dist after; do
         runs "${as[@]}" .ci/needs $who && check "$who without target" answers 1 1 'cannot write to .*/target (Permission denied):'
     done
     rmdir "$tree/target"
@@ -164,12 +166,16 @@ rm "$bin/cc"
 runs ./demo && check 'demo without cc' answers 1 1 'there is no command cc:'
 check 'and nothing was made' test ! -e "$tree/demo-out" -a ! -e "$tree/target"
 runs oracle/library.sh && check 'library.sh without cc' answers 1 1 'there is no command cc:'
-rm "$bin/python3"
+rm "$bin/rt"
+runs ./dist && check 'dist without the kit' answers 1 1 'there is no command rt,'
+check 'and nothing was made' test ! -e "$tree/dist-out" -a ! -e "$tree/target"
+fresh
+rm "$bin/python3" "$bin/cc"
 runs .ci/run && check 'the gate without python3' says 2 '^\.ci/run: NO VERDICT: nothing was run'
 check 'and it says why, and no more' test "$(lines '^needs: there is no command python3:') $(lines)" = '1 3'
 
 # rt fails: status 1 is "not proved", but where the disk is full or the tree closed; and any other is no verdict.
-for one in ./demo oracle/library.sh .ci/run; do
+for one in ./demo oracle/library.sh ./dist .ci/run; do
     no=1
     [[ $one != .ci/run ]] || no=2
     fresh
