@@ -1,6 +1,6 @@
 # shellcheck shell=bash
 # The module that the kit hands to its compiler, and what is made of it for each machine: what library.sh and ../dist share. Sourced; it
-# takes `root`, the top of the repository, and `fail`, and sets `oracle`, `build` and `here`.
+# takes `root`, the top of the repository, and `fail`, and sets `oracle`, `build`, `here` and `tools`.
 #
 #   keep_module                          proves, and keeps build/module/{module.bc,module.ll,libhaythaw.a}, the last one rt's own archive
 #   module_text MACHINE PROCESSOR OUT    the module as assembly text for a machine, and for such processors alone if one is named
@@ -12,17 +12,24 @@ oracle=$root/oracle build=$root/oracle/build here=$(uname -m)
 kit=$(dirname "$(dirname "$(rt doc)")")
 tools=$kit/on/$here/toolchain/bin
 
-# Runs rt in the repository, and shows what it said if it fails. Its status is 1 where something is not proved, on a full disk too, which
-# is asked for first; any other is no verdict.
+# Runs rt in the repository, and shows what it said if it fails, and where `progress` is set what it proves, crate by crate. Its status is 1
+# where something is not proved, on a full disk too, which is asked for first; any other is no verdict.
 run_rt() { # WORDS...
     local ended=0
-    : >"$build/rt.log"
-    (cd "$root" && rt "$@") >"$build/rt.log" 2>&1 || ended=$?
+    (cd "$root" && rt "$@") 2>&1 | tee "$build/rt.log" | shown || ended=${PIPESTATUS[0]}
     [[ $ended -ne 0 ]] || return 0
     tail -n 40 "$build/rt.log" >&2
     "$root/.ci/needs" after "$build/rt.log" || fail "rt $*: no verdict, since something could not be written"
     [[ $ended -ne 1 ]] || fail "rt $*: something is not proved, or was refused"
     fail "rt $* ended with status $ended, with no verdict"
+}
+
+shown() {
+    if [[ -n ${progress:-} ]]; then
+        { grep --line-buffered '^rt: .* proved' || true; } | { grep --line-buffered -v unchanged || true; }
+    else
+        cat >/dev/null
+    fi
 }
 
 # Links everything in a folder into another, but one name.

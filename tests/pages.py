@@ -81,7 +81,7 @@ def check_proved(root):
 
 def check_links(root):
     said = []
-    for path in ['README.md'] + glob.glob('docs/**/*.md', root_dir=root, recursive=True) + glob.glob('bind/*/README.md', root_dir=root):
+    for path in ['README.md', 'CHANGELOG.md'] + glob.glob('docs/**/*.md', root_dir=root, recursive=True) + glob.glob('bind/*/README.md', root_dir=root):
         for link in re.findall(r'\]\(([^)#:]+)(?:#[^)]*)?\)', read(os.path.join(root, path))):
             if not os.path.exists(os.path.join(root, os.path.dirname(path), link)):
                 said.append(f'{path}: a link leads nowhere: {link}')
@@ -122,7 +122,7 @@ def self_test():
                     shutil.copytree(os.path.join(ROOT, part), os.path.join(root, part))
                 else:
                     os.symlink(os.path.join(ROOT, part), os.path.join(root, part))
-            for part in ('README.md', 'crates.txt', 'NOTICE'):
+            for part in ('README.md', 'CHANGELOG.md', 'crates.txt', 'NOTICE'):
                 shutil.copy(os.path.join(ROOT, part), root)
             text = read(os.path.join(root, page))
             with open(os.path.join(root, page), 'w', encoding='utf-8') as file:
