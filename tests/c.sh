@@ -92,6 +92,11 @@ else
     left+=(C++)
 fi
 
+# Every call that answers a number has the word for it before it: all but these.
+if command -v python3 >/dev/null; then
+    diff <(printf 'haythaw_%s\n' allocation_size is_avc_format map_size number_text version) <(python3 bind/c/exports.py --unmarked) ||
+        { echo 'c: FAILED: a call that answers a number has no HAYTHAW_MUST_USE before it'; exit 1; }
+fi
 # An answer that is not looked at is warned of, and by a struct's call too; not where a program defines the word away.
 for call in 'haythaw_view(0, 0, 0, 0, 0, 0, 0, 0, 0, 0)' 'haythaw_avc444_read(0, 0)' 'haythaw_picture_new(0)'; do
     printf '#include "haythaw_planes.h"\nvoid ignoring(void);\nvoid ignoring(void) { %s; }\n' "$call" >"$made/ignoring.c"

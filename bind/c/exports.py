@@ -3,6 +3,7 @@
 
     exports.py             a name a line
     exports.py --map       the linker's version script, of the major version
+    exports.py --unmarked  the names without HAYTHAW_MUST_USE before them
 """
 import os
 import re
@@ -20,6 +21,9 @@ def main():
         sys.exit('exports.py: haythaw.h declares no function, or one twice')
     if sys.argv[1:] == ['--map']:
         print(f'HAYTHAW_{major} {{\nglobal:\n' + ''.join(f'    {name};\n' for name in sorted(names)) + 'local:\n    *;\n};')
+    elif sys.argv[1:] == ['--unmarked']:
+        marked = re.findall(r'\bHAYTHAW_MUST_USE\s+[\w\s*]*?\b(haythaw_\w+)\s*\(', text)
+        print('\n'.join(sorted(set(names) - set(marked))))
     elif not sys.argv[1:]:
         print('\n'.join(sorted(names)))
     else:

@@ -43,8 +43,8 @@
  *   stream    of such a payload: a count of 32 bits, that many rectangles of four numbers of 16 bits (left, top, right, bottom),
  *             that many pairs of a quantiser byte and a quality byte, and then its H.264 bytes, to the stream's end.
  *
- * Link with libhaythaw: as `pkg-config --cflags --libs haythaw` says where it is installed, else with oracle/build/libhaythaw.a, which
- * oracle/library.sh makes for this machine. It is for machines whose size_t has 64 bits.
+ * Link with libhaythaw: as `pkg-config --cflags --libs haythaw` says where it is installed; in the repository with
+ * oracle/build/libhaythaw.a, which oracle/library.sh makes for this machine. It is for machines whose size_t has 64 bits.
  */
 #ifndef HAYTHAW_H
 #define HAYTHAW_H
@@ -208,7 +208,7 @@ typedef struct haythaw_pair {
 
 /* ---- The library itself ----
  *
- * These two are C (bind/c/haythaw_text.c), not proved code: an object of their own beside the proved one. */
+ * These two are C (haythaw_text.c), not proved code: an object of their own beside the proved one. Since 0.4. */
 
 /* The version of the library that was linked, major x 65,536 + minor x 256 + patch. HAYTHAW_VERSION_* are those of the header that was
  * included. Never refuses. */
