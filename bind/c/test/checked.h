@@ -180,10 +180,11 @@ static void every_place(void)
     }
 }
 
-/* Every column of long rows, in the first row and in the last: 177 is 192 wide by both rules, and 337 is 352. */
+/* Every column of long rows, in the first row and in the last: 257 is 272 wide or 288, and 289 is 304 or 320. Rows of V2 have quarters of 68 and
+ * 76, so that parts of 64, of 8 and of 4 are met, and columns past the stride. */
 static void every_column(void)
 {
-    static const uint16_t widths[] = {177, 337};
+    static const uint16_t widths[] = {257, 289};
     for (size_t k = 0; k < 2; k++)
         for (int call = CHECK_V1; call <= CHECK_V2_32; call++) {
             Args a = pair((enum call)call, widths[k], 1, loose);
