@@ -20,10 +20,10 @@ case $status in
 esac
 
 "$oracle/library.sh"
-export CARGO_TARGET_DIR=$oracle/build/cargo
+export HAYTHAW_LIB_DIR=$oracle/build CARGO_TARGET_DIR=$oracle/build/cargo
 if [[ -n ${HAYTHAW_PROCESSOR:-} ]]; then
-    export HAYTHAW_ARCHIVE=$oracle/build/$HAYTHAW_PROCESSOR
-    export CARGO_TARGET_DIR=$HAYTHAW_ARCHIVE/cargo RUSTFLAGS=-Ctarget-cpu=$HAYTHAW_PROCESSOR
+    export HAYTHAW_LIB_DIR=$oracle/build/$HAYTHAW_PROCESSOR
+    export CARGO_TARGET_DIR=$HAYTHAW_LIB_DIR/cargo RUSTFLAGS=-Ctarget-cpu=$HAYTHAW_PROCESSOR
 fi
 (cd "$oracle" && cargo build --release --offline --quiet)
 exec "$CARGO_TARGET_DIR/release/$program" "$@"

@@ -1,6 +1,6 @@
 #!/usr/bin/env bash
-# bind/rust: its own tests and the examples of its documentation; then one source file over it and over the Rust original
-# (oracle/dropin.sh), which says so where the original is not at hand.
+# bind/rust and bind/rust/sys: their own tests and the examples of their documentation; then one source file over bind/rust and over the
+# Rust original (oracle/dropin.sh), which says so where the original is not at hand. tests/rust_package.sh has the packages.
 set -euo pipefail
 
 root=$(cd "$(dirname "${BASH_SOURCE[0]}")/.." && pwd -P)
@@ -11,10 +11,10 @@ command -v cargo >/dev/null || { echo 'not tested: bind/rust: cargo is not at ha
 example() { awk '/^```rust$/ { inside = 1; next } inside && /^```$/ { exit } inside' "$1"; }
 
 "$root/oracle/library.sh"
-export CARGO_TARGET_DIR=$root/oracle/build/cargo
+export HAYTHAW_LIB_DIR=$root/oracle/build CARGO_TARGET_DIR=$root/oracle/build/cargo
 cd "$root/bind/rust"
-cargo test --offline --quiet
-RUSTDOCFLAGS='-D warnings' cargo doc --offline --no-deps --quiet
+cargo test --offline --quiet --workspace
+RUSTDOCFLAGS='-D warnings' cargo doc --offline --no-deps --quiet --workspace
 
 # README.md may show the example of bind/rust, which was just run; then it shows that one.
 if grep -q '^```rust$' "$root/README.md"; then

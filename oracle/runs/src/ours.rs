@@ -1,10 +1,11 @@
-//! The library's functions. All that is unsafe in the runs is below this file: bind/rust's own declarations, and here the four functions
-//! that no header has, since nothing but a comparison calls them.
+//! The library's functions. All that is unsafe in the runs is below this file: bind/rust's own calls, and here the four functions that no
+//! header has, since nothing but a comparison calls them.
 
 #[path = "../../../bind/rust/src/library/calls/mod.rs"]
 mod calls;
 
 pub use calls::*;
+pub use haythaw_sys::{Answer, Pair, Pixels, Places, Rectangle, Row, Views};
 
 #[repr(C)]
 struct Yuv {

@@ -2,37 +2,9 @@
 
 use super::{Size, View};
 
-/// Declares functions of the library that apply a view to a picture, and each in safe Rust.
+/// Functions of the library that apply a view to a picture, each in safe Rust.
 macro_rules! applying {
     ($($(#[$about:meta])* $name:ident is $symbol:ident;)*) => {
-        // The names and the types are those of crates/haythaw.
-        unsafe extern "C" {
-            $(fn $symbol(
-                width: u16,
-                height: u16,
-                y: *mut u8,
-                y_count: usize,
-                u: *mut u8,
-                u_count: usize,
-                v: *mut u8,
-                v_count: usize,
-                map: *mut u8,
-                map_count: usize,
-                rects: *const u16,
-                rects_count: usize,
-                view_width: u16,
-                view_height: u16,
-                luma_stride: usize,
-                chroma_stride: usize,
-                view_y: *const u8,
-                view_y_count: usize,
-                view_u: *const u8,
-                view_u_count: usize,
-                view_v: *const u8,
-                view_v_count: usize,
-            ) -> u32;)*
-        }
-
         $($(#[$about])*
         #[inline]
         pub fn $name(
@@ -43,7 +15,7 @@ macro_rules! applying {
         ) -> u32 {
             // SAFETY: each pointer and count are of one slice, and the four that are written are borrowed for that alone.
             unsafe {
-                $symbol(
+                haythaw_sys::$symbol(
                     width,
                     height,
                     y.as_mut_ptr(),

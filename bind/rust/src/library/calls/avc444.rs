@@ -1,65 +1,15 @@
 //! The AVC444 payload.
 
-use super::Answer;
+use haythaw_sys::{Answer, Avc444, Pair, Rectangle};
 
-/// Where the parts of a stream are in the payload that was lent, and how many rectangles and H.264 bytes there are.
-#[repr(C)]
-#[derive(Debug, Clone, Copy, PartialEq, Eq)]
-pub struct Places {
-    pub count: usize,
-    pub rects: usize,
-    pub pairs: usize,
-    pub data: usize,
-    pub length: usize,
-}
-
-/// What a payload carries. Its number is 0, 9, 8 or 10.
-#[repr(C)]
-#[derive(Debug, Clone, Copy, PartialEq, Eq)]
-pub struct Avc444 {
-    pub number: u32,
-    pub kind: u32,
-    pub luma: Places,
-    pub chroma: Places,
-}
-
-/// A rectangle of a stream. Its number is the payload's.
-#[repr(C)]
-#[derive(Debug, Clone, Copy, PartialEq, Eq)]
-pub struct Rectangle {
-    pub number: u32,
-    pub present: bool,
-    pub left: u16,
-    pub top: u16,
-    pub right: u16,
-    pub bottom: u16,
-}
-
-/// A pair of a stream. Its number is the payload's.
-#[repr(C)]
-#[derive(Debug, Clone, Copy, PartialEq, Eq)]
-pub struct Pair {
-    pub number: u32,
-    pub present: bool,
-    pub value: u8,
-    pub reserved: bool,
-    pub progressive: bool,
-    pub quality: u8,
-}
-
-/// Declares functions of the library that read a payload, and perhaps one rectangle or pair of it, and each in safe Rust.
+/// Functions of the library that read a payload, and perhaps one rectangle or pair of it, each in safe Rust.
 macro_rules! reading {
     ($($(#[$about:meta])* $name:ident is $symbol:ident($($i:ident: $type:ty)?) -> $result:ty;)*) => {
-        // The names and the types are those of crates/haythaw.
-        unsafe extern "C" {
-            $(fn $symbol(payload: *const u8, payload_count: usize, $($i: $type)?) -> $result;)*
-        }
-
         $($(#[$about])*
         #[inline]
         pub fn $name(payload: &[u8], $($i: $type)?) -> $result {
             // SAFETY: pointer and count are of one slice, which is read alone.
-            unsafe { $symbol(payload.as_ptr(), payload.len(), $($i)?) }
+            unsafe { haythaw_sys::$symbol(payload.as_ptr(), payload.len(), $($i)?) }
         })*
     };
 }
@@ -77,19 +27,14 @@ reading! {
     avc444_chroma_pair is haythaw_avc444_chroma_pair(i: usize) -> Pair;
 }
 
-/// Declares functions of the library that copy a stream's rectangles, and each in safe Rust.
+/// Functions of the library that copy a stream's rectangles, each in safe Rust.
 macro_rules! copying {
     ($($(#[$about:meta])* $name:ident is $symbol:ident;)*) => {
-        // The names and the types are those of crates/haythaw.
-        unsafe extern "C" {
-            $(fn $symbol(payload: *const u8, payload_count: usize, out: *mut u16, out_count: usize) -> Answer;)*
-        }
-
         $($(#[$about])*
         #[inline]
         pub fn $name(payload: &[u8], out: &mut [u16]) -> Answer {
             // SAFETY: each pointer and count are of one slice, and the one that is written is borrowed for that alone.
-            unsafe { $symbol(payload.as_ptr(), payload.len(), out.as_mut_ptr(), out.len()) }
+            unsafe { haythaw_sys::$symbol(payload.as_ptr(), payload.len(), out.as_mut_ptr(), out.len()) }
         })*
     };
 }
@@ -109,33 +54,12 @@ pub struct Given<'a> {
     pub data: &'a [u8],
 }
 
-// The name and the types are those of crates/haythaw.
-unsafe extern "C" {
-    fn haythaw_avc444_write(
-        kind: u32,
-        luma_rects: *const u16,
-        luma_rects_count: usize,
-        luma_pairs: *const u8,
-        luma_pairs_count: usize,
-        luma_data: *const u8,
-        luma_data_count: usize,
-        chroma_rects: *const u16,
-        chroma_rects_count: usize,
-        chroma_pairs: *const u8,
-        chroma_pairs_count: usize,
-        chroma_data: *const u8,
-        chroma_data_count: usize,
-        out: *mut u8,
-        out_count: usize,
-    ) -> Answer;
-}
-
 /// The payload of a kind. 0, 8, 7, 11 or 6.
 #[inline]
 pub fn avc444_write(kind: u32, luma: Given<'_>, chroma: Given<'_>, out: &mut [u8]) -> Answer {
     // SAFETY: each pointer and count are of one slice, and the one that is written is borrowed for that alone.
     unsafe {
-        haythaw_avc444_write(
+        haythaw_sys::haythaw_avc444_write(
             kind,
             luma.rects.as_ptr(),
             luma.rects.len(),

@@ -1,6 +1,6 @@
 //! The functions of the proved library that have a place in `bind/c/haythaw.h`, each in safe Rust, in the files that `crates/haythaw`
-//! has. These files name nothing of the crate around them: the runs beside the Rust original (`oracle/runs`) compile them too, so that
-//! what is compared there is declared as it is here.
+//! has; `haythaw-sys` declares them. These files name nothing of the crate around them: the runs beside the Rust original
+//! (`oracle/runs`) compile them too, so that what is compared there is called as it is here.
 //!
 //! A slice passes as a pointer and an element count. The library asks two things of its caller that it cannot check: every count is
 //! true, and a slice that is written overlaps no other. Here both hold by the types. A pointer and its count are always those of one
@@ -27,11 +27,3 @@ pub use split::*;
 pub use strict::*;
 pub use to_rgba::*;
 pub use view::*;
-
-/// What a call that writes answers: 0 or the number of a refusal, and how many elements of the slice were written.
-#[repr(C)]
-#[derive(Debug, Clone, Copy, PartialEq, Eq)]
-pub struct Answer {
-    pub number: u32,
-    pub count: usize,
-}

@@ -7,36 +7,16 @@ pub struct Size {
     pub height: u16,
 }
 
-// The names and the types are those of crates/haythaw.
-unsafe extern "C" {
-    // SAFETY: it takes numbers by value, and is proved to answer for all of them.
-    safe fn haythaw_allocation_size(width: u16, height: u16) -> usize;
-    // SAFETY: the same.
-    safe fn haythaw_map_size(width: u16, height: u16) -> usize;
-    fn haythaw_new(
-        width: u16,
-        height: u16,
-        y: *mut u8,
-        y_count: usize,
-        u: *mut u8,
-        u_count: usize,
-        v: *mut u8,
-        v_count: usize,
-        map: *mut u8,
-        map_count: usize,
-    ) -> u32;
-}
-
 /// Bytes of the three planes together.
 #[inline]
 pub fn allocation_size(Size { width, height }: Size) -> usize {
-    haythaw_allocation_size(width, height)
+    haythaw_sys::haythaw_allocation_size(width, height)
 }
 
 /// Bytes of the map.
 #[inline]
 pub fn map_size(Size { width, height }: Size) -> usize {
-    haythaw_map_size(width, height)
+    haythaw_sys::haythaw_map_size(width, height)
 }
 
 /// A fresh picture in the planes Y, U and V, and its map. 0 or 1.
@@ -44,7 +24,7 @@ pub fn map_size(Size { width, height }: Size) -> usize {
 pub fn new(Size { width, height }: Size, [y, u, v, map]: [&mut [u8]; 4]) -> u32 {
     // SAFETY: each pointer and count are of one slice, and all four are borrowed to be written.
     unsafe {
-        haythaw_new(
+        haythaw_sys::haythaw_new(
             width,
             height,
             y.as_mut_ptr(),
@@ -59,33 +39,15 @@ pub fn new(Size { width, height }: Size, [y, u, v, map]: [&mut [u8]; 4]) -> u32 
     }
 }
 
-/// Declares functions of the library that make a picture of RGBA pixels, and each in safe Rust.
+/// Functions of the library that make a picture of RGBA pixels, each in safe Rust.
 macro_rules! making {
     ($($(#[$about:meta])* $name:ident is $symbol:ident;)*) => {
-        // The names and the types are those of crates/haythaw.
-        unsafe extern "C" {
-            $(fn $symbol(
-                rgba: *const u8,
-                rgba_count: usize,
-                width: u16,
-                height: u16,
-                y: *mut u8,
-                y_count: usize,
-                u: *mut u8,
-                u_count: usize,
-                v: *mut u8,
-                v_count: usize,
-                map: *mut u8,
-                map_count: usize,
-            ) -> u32;)*
-        }
-
         $($(#[$about])*
         #[inline]
         pub fn $name(rgba: &[u8], Size { width, height }: Size, [y, u, v, map]: [&mut [u8]; 4]) -> u32 {
             // SAFETY: each pointer and count are of one slice, and the four that are written are borrowed for that alone.
             unsafe {
-                $symbol(
+                haythaw_sys::$symbol(
                     rgba.as_ptr(),
                     rgba.len(),
                     width,

@@ -1,47 +1,11 @@
 //! Both views of a picture.
 
 use super::Size;
+use haythaw_sys::Views;
 
-/// What a split answers: 0, 1, 5 or 6, and the sizes and strides that both views have.
-#[repr(C)]
-#[derive(Debug, Clone, Copy, PartialEq, Eq)]
-pub struct Views {
-    pub number: u32,
-    pub width: u16,
-    pub height: u16,
-    pub luma_stride: usize,
-    pub chroma_stride: usize,
-}
-
-/// Declares functions of the library that split a picture, and each in safe Rust.
+/// Functions of the library that split a picture, each in safe Rust.
 macro_rules! splitting {
     ($($(#[$about:meta])* $name:ident is $symbol:ident;)*) => {
-        // The names and the types are those of crates/haythaw.
-        unsafe extern "C" {
-            $(fn $symbol(
-                width: u16,
-                height: u16,
-                y: *const u8,
-                y_count: usize,
-                u: *const u8,
-                u_count: usize,
-                v: *const u8,
-                v_count: usize,
-                main_y: *mut u8,
-                main_y_count: usize,
-                main_u: *mut u8,
-                main_u_count: usize,
-                main_v: *mut u8,
-                main_v_count: usize,
-                aux_y: *mut u8,
-                aux_y_count: usize,
-                aux_u: *mut u8,
-                aux_u_count: usize,
-                aux_v: *mut u8,
-                aux_v_count: usize,
-            ) -> Views;)*
-        }
-
         $($(#[$about])*
         #[inline]
         pub fn $name(
@@ -52,7 +16,7 @@ macro_rules! splitting {
         ) -> Views {
             // SAFETY: each pointer and count are of one slice, and the six that are written are borrowed for that alone.
             unsafe {
-                $symbol(
+                haythaw_sys::$symbol(
                     width,
                     height,
                     y.as_ptr(),

@@ -2,6 +2,7 @@
 
 use super::apply::applying;
 use super::{Size, View};
+use haythaw_sys::Unsound;
 
 applying! {
     /// The main view, if every rectangle of the list is sound. 0, 1, 7, 12, 3 or 4.
@@ -16,24 +17,9 @@ applying! {
     apply_auxiliary_v2_exact_strict is haythaw_apply_auxiliary_v2_exact_strict;
 }
 
-/// The first rectangle of a list that is not sound, and its first fault, 1 to 4. Its number is 0 or 7.
-#[repr(C)]
-#[derive(Debug, Clone, Copy, PartialEq, Eq)]
-pub struct Unsound {
-    pub number: u32,
-    pub present: bool,
-    pub fault: u8,
-    pub index: usize,
-}
-
-// The name and the types are those of crates/haythaw.
-unsafe extern "C" {
-    fn haythaw_first_unsound(width: u16, height: u16, rects: *const u16, rects_count: usize) -> Unsound;
-}
-
 /// Which rectangle of a list is the first that is not sound in a picture of this size.
 #[inline]
 pub fn first_unsound(Size { width, height }: Size, rects: &[u16]) -> Unsound {
     // SAFETY: pointer and count are of one slice, which is read alone.
-    unsafe { haythaw_first_unsound(width, height, rects.as_ptr(), rects.len()) }
+    unsafe { haythaw_sys::haythaw_first_unsound(width, height, rects.as_ptr(), rects.len()) }
 }

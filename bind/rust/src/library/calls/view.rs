@@ -1,5 +1,7 @@
 //! A 4:2:0 view and its rows.
 
+use haythaw_sys::Row;
+
 /// A view's sizes and its lent planes.
 #[derive(Clone, Copy)]
 pub struct View<'a> {
@@ -12,43 +14,16 @@ pub struct View<'a> {
     pub v: &'a [u8],
 }
 
-/// A row by its place in the plane that was lent. Its number is 0, 3 or 4.
-#[repr(C)]
-#[derive(Debug, Clone, Copy, PartialEq, Eq)]
-pub struct Row {
-    pub number: u32,
-    pub present: bool,
-    pub start: usize,
-    pub length: usize,
-}
-
-/// Declares functions of the library that take a view, and perhaps a row's number, and each in safe Rust.
+/// Functions of the library that take a view, and perhaps a row's number, each in safe Rust.
 macro_rules! of_views {
     ($($(#[$about:meta])* $name:ident is $symbol:ident($($row:ident: $type:ty)?) -> $result:ty;)*) => {
-        // The names and the types are those of crates/haythaw.
-        unsafe extern "C" {
-            $(fn $symbol(
-                view_width: u16,
-                view_height: u16,
-                luma_stride: usize,
-                chroma_stride: usize,
-                view_y: *const u8,
-                view_y_count: usize,
-                view_u: *const u8,
-                view_u_count: usize,
-                view_v: *const u8,
-                view_v_count: usize,
-                $($row: $type)?
-            ) -> $result;)*
-        }
-
         $($(#[$about])*
         #[inline]
         pub fn $name(view: View<'_>, $($row: $type)?) -> $result {
             let View { width, height, luma_stride, chroma_stride, y, u, v } = view;
             // SAFETY: each pointer and count are of one slice, and all are read alone.
             unsafe {
-                $symbol(
+                haythaw_sys::$symbol(
                     width,
                     height,
                     luma_stride,
