@@ -9,6 +9,7 @@ mod avc444;
 mod picture;
 mod split;
 mod strict;
+mod text;
 mod to_rgba;
 mod view;
 
@@ -18,6 +19,7 @@ pub use avc444::*;
 pub use picture::*;
 pub use split::*;
 pub use strict::*;
+pub use text::*;
 pub use to_rgba::*;
 pub use view::*;
 
