@@ -17,7 +17,8 @@ fn noisy(width: u16, height: u16) -> Yuv420Frame {
 
 fn noise_from(first: usize, width: u16, height: u16) -> Yuv420Frame {
     let (w, h) = (usize::from(width), usize::from(height));
-    let bytes = |count: usize, first: usize| (0..count).map(|at| ((first + at) * 2_654_435_761 >> 13) as u8).collect();
+    let bytes =
+        |count: usize, first: usize| (0..count).map(|at| (((first + at) * 2_654_435_761) >> 13) as u8).collect();
     let chroma = w.div_ceil(2) * h.div_ceil(2);
     let [y, u, v] =
         [(w * h, first), (chroma, first + 1), (chroma, first + 2)].map(|(count, first)| bytes(count, first));

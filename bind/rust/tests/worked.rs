@@ -350,7 +350,7 @@ fn one_pixel_fills_its_planes() {
 
 /// So many pixels, of many colours.
 fn noise(pixels: usize) -> Vec<u8> {
-    (0..4 * pixels).map(|at| (at * 2_654_435_761 >> 13) as u8).collect()
+    (0..4 * pixels).map(|at| ((at * 2_654_435_761) >> 13) as u8).collect()
 }
 
 /// The planes of a filled edge by its rule, said again: the sample of the nearest pixel, and then the averages.
