@@ -9,6 +9,7 @@ use crate::check::{CheckedPlane, CheckedView, SplitCheck};
 use crate::decode::{DecoderError, DecoderResult, Yuv420Frame};
 use crate::geometry::{ExclusiveRectangle, RectangleFault, UnsoundRectangle};
 use crate::library::{self, Size};
+use crate::view::{AsYuv420View, Yuv420View};
 
 /// Where the auxiliary view keeps the chroma that the main view leaves out.
 #[derive(Debug, Clone, Copy, PartialEq, Eq)]
@@ -234,9 +235,9 @@ impl Yuv444Frame {
     /// assert_eq!(picture.to_rgba(&pixel), [252, 0, 0, 255]);
     /// # Ok::<(), haythaw::decode::DecoderError>(())
     /// ```
-    pub fn apply_main_view(&mut self, view: &Yuv420Frame, rects: &[ExclusiveRectangle]) {
+    pub fn apply_main_view(&mut self, view: &(impl AsYuv420View + ?Sized), rects: &[ExclusiveRectangle]) {
         let (size, lent) = self.lent_mut();
-        let number = library::apply_main_view(size, lent, library::numbers_of(rects), view.lent());
+        let number = library::apply_main_view(size, lent, library::numbers_of(rects), view.as_view().lent());
         library::done("apply_main_view", number);
     }
 
@@ -244,13 +245,18 @@ impl Yuv444Frame {
     ///
     /// Luma and the main view's chroma stay as they are. See [`Yuv444Frame`] for an example. Layout V2 is read by the original's rule for
     /// its width; [`Self::apply_auxiliary_view_v2`] takes another one too.
-    pub fn apply_auxiliary_view(&mut self, layout: Avc444Layout, view: &Yuv420Frame, rects: &[ExclusiveRectangle]) {
+    pub fn apply_auxiliary_view(
+        &mut self,
+        layout: Avc444Layout,
+        view: &(impl AsYuv420View + ?Sized),
+        rects: &[ExclusiveRectangle],
+    ) {
         let apply = match layout {
             Avc444Layout::V1 => library::apply_auxiliary_v1,
             Avc444Layout::V2 => library::apply_auxiliary_v2,
         };
         let (size, lent) = self.lent_mut();
-        library::done("apply_auxiliary_view", apply(size, lent, library::numbers_of(rects), view.lent()));
+        library::done("apply_auxiliary_view", apply(size, lent, library::numbers_of(rects), view.as_view().lent()));
     }
 
     /// The same for an auxiliary view of layout V2, by a rule for its width, which the original has no call for.
@@ -277,14 +283,19 @@ impl Yuv444Frame {
     /// assert_eq!(picture.to_rgba(&whole), sent.to_rgba(&whole));
     /// # Ok::<(), haythaw::decode::DecoderError>(())
     /// ```
-    pub fn apply_auxiliary_view_v2(&mut self, rule: WidthRule, view: &Yuv420Frame, rects: &[ExclusiveRectangle]) {
+    pub fn apply_auxiliary_view_v2(
+        &mut self,
+        rule: WidthRule,
+        view: &(impl AsYuv420View + ?Sized),
+        rects: &[ExclusiveRectangle],
+    ) {
         let apply = match rule {
             WidthRule::To16 => library::apply_auxiliary_v2,
             WidthRule::To32 => library::apply_auxiliary_v2_32,
             WidthRule::Exact => library::apply_auxiliary_v2_exact,
         };
         let (size, lent) = self.lent_mut();
-        library::done("apply_auxiliary_view_v2", apply(size, lent, library::numbers_of(rects), view.lent()));
+        library::done("apply_auxiliary_view_v2", apply(size, lent, library::numbers_of(rects), view.as_view().lent()));
     }
 
     /// [`Self::apply_main_view`] for a list of which every rectangle is to be sound, which the original has no call for.
@@ -318,10 +329,10 @@ impl Yuv444Frame {
     /// ```
     pub fn apply_main_view_strict(
         &mut self,
-        view: &Yuv420Frame,
+        view: &(impl AsYuv420View + ?Sized),
         rects: &[ExclusiveRectangle],
     ) -> Result<(), UnsoundRectangle> {
-        self.apply_strictly("apply_main_view_strict", library::apply_main_view_strict, view, rects)
+        self.apply_strictly("apply_main_view_strict", library::apply_main_view_strict, view.as_view(), rects)
     }
 
     /// [`Self::apply_auxiliary_view`] for a list of which every rectangle is to be sound; see [`Self::apply_main_view_strict`].
@@ -353,14 +364,14 @@ impl Yuv444Frame {
     pub fn apply_auxiliary_view_strict(
         &mut self,
         layout: Avc444Layout,
-        view: &Yuv420Frame,
+        view: &(impl AsYuv420View + ?Sized),
         rects: &[ExclusiveRectangle],
     ) -> Result<(), UnsoundRectangle> {
         let apply = match layout {
             Avc444Layout::V1 => library::apply_auxiliary_v1_strict,
             Avc444Layout::V2 => library::apply_auxiliary_v2_strict,
         };
-        self.apply_strictly("apply_auxiliary_view_strict", apply, view, rects)
+        self.apply_strictly("apply_auxiliary_view_strict", apply, view.as_view(), rects)
     }
 
     /// [`Self::apply_auxiliary_view_v2`] for a list of which every rectangle is to be sound; see [`Self::apply_main_view_strict`].
@@ -392,7 +403,7 @@ impl Yuv444Frame {
     pub fn apply_auxiliary_view_v2_strict(
         &mut self,
         rule: WidthRule,
-        view: &Yuv420Frame,
+        view: &(impl AsYuv420View + ?Sized),
         rects: &[ExclusiveRectangle],
     ) -> Result<(), UnsoundRectangle> {
         let apply = match rule {
@@ -400,7 +411,7 @@ impl Yuv444Frame {
             WidthRule::To32 => library::apply_auxiliary_v2_32_strict,
             WidthRule::Exact => library::apply_auxiliary_v2_exact_strict,
         };
-        self.apply_strictly("apply_auxiliary_view_v2_strict", apply, view, rects)
+        self.apply_strictly("apply_auxiliary_view_v2_strict", apply, view.as_view(), rects)
     }
 
     /// The first rectangle of a list that is not sound in this picture, or `None` where all are.
@@ -624,7 +635,7 @@ impl Yuv444Frame {
         &mut self,
         call: &str,
         apply: Applying,
-        view: &Yuv420Frame,
+        view: Yuv420View<'_>,
         rects: &[ExclusiveRectangle],
     ) -> Result<(), UnsoundRectangle> {
         let (size, lent) = self.lent_mut();

@@ -2,7 +2,8 @@
 
 use core::fmt;
 
-use crate::library::{self, Row, View};
+use crate::library::View;
+pub use crate::view::{AsYuv420View, Yuv420View};
 
 /// A picture as RGBA, four bytes a pixel, row by row from the top.
 ///
@@ -120,15 +121,8 @@ impl Yuv420Frame {
         v: Vec<u8>,
         chroma_stride: usize,
     ) -> DecoderResult<Self> {
-        let view = Self { y, u, v, luma_stride, chroma_stride, width, height };
-        match library::view_number(view.lent()) {
-            3 => Err(DecoderError::msg("YUV 4:2:0 stride narrower than its plane")),
-            4 => Err(DecoderError::msg("YUV 4:2:0 plane shorter than its rows")),
-            number => {
-                library::done("view", number);
-                Ok(view)
-            }
-        }
+        Yuv420View::new(width, height, luma_stride, chroma_stride, &y, &u, &v)?;
+        Ok(Self { y, u, v, luma_stride, chroma_stride, width, height })
     }
 
     /// Width in pixels.
@@ -143,17 +137,17 @@ impl Yuv420Frame {
 
     /// Luma row `row`, as wide as the picture, or `None` below the last row.
     pub fn luma_row(&self, row: usize) -> Option<&[u8]> {
-        part(&self.y, library::luma_row(self.lent(), row))
+        self.as_view().luma_row(row)
     }
 
     /// Row `row` of U, half as wide as the picture (rounded up), or `None` below the last row.
     pub fn u_row(&self, row: usize) -> Option<&[u8]> {
-        part(&self.u, library::u_row(self.lent(), row))
+        self.as_view().u_row(row)
     }
 
     /// Row `row` of V, half as wide as the picture (rounded up), or `None` below the last row.
     pub fn v_row(&self, row: usize) -> Option<&[u8]> {
-        part(&self.v, library::v_row(self.lent(), row))
+        self.as_view().v_row(row)
     }
 
     /// Converts the picture to RGBA with the transform of MS-RDPEGFX 3.3.8.3.1, each chroma sample for its 2x2 block.
@@ -166,11 +160,38 @@ impl Yuv420Frame {
     /// # Ok::<(), haythaw::decode::DecoderError>(())
     /// ```
     pub fn to_rgba(&self) -> DecodedFrame {
-        let mut rgba = vec![0; usize::from(self.width) * usize::from(self.height) * 4];
-        let answer = library::view_to_rgba(self.lent(), &mut rgba);
-        library::done("view_to_rgba", answer.number);
-        rgba.truncate(answer.count);
-        DecodedFrame::new(rgba, u32::from(self.width), u32::from(self.height))
+        self.as_view().to_rgba()
+    }
+
+    /// The same picture over these planes, which are lent and not copied.
+    ///
+    /// ```
+    /// use haythaw::decode::Yuv420Frame;
+    ///
+    /// let frame = Yuv420Frame::new(3, 1, vec![53; 4], 4, vec![99; 2], vec![255; 2], 2)?;
+    /// let view = frame.as_view();
+    /// assert_eq!((view.luma_stride(), view.y()), (4, &[53; 4][..]));
+    /// assert_eq!(view.luma_row(0), frame.luma_row(0));
+    /// # Ok::<(), haythaw::decode::DecoderError>(())
+    /// ```
+    pub fn as_view(&self) -> Yuv420View<'_> {
+        Yuv420View::of(self.lent())
+    }
+
+    /// The planes, without the frame around them: for an encoder, or to be filled again.
+    ///
+    /// ```
+    /// use haythaw::{Avc444Layout, Yuv420Frame, Yuv444Frame};
+    ///
+    /// let (main, _) = Yuv444Frame::new(20, 1).split(Avc444Layout::V2)?;
+    /// let planes = main.into_planes();
+    /// assert_eq!((planes.width, planes.height, planes.luma_stride, planes.chroma_stride), (32, 16, 32, 16));
+    /// assert_eq!((planes.y.len(), planes.u.len(), planes.v.len()), (32 * 16, 16 * 8, 16 * 8));
+    /// # Ok::<(), haythaw::decode::DecoderError>(())
+    /// ```
+    pub fn into_planes(self) -> Yuv420Planes {
+        let Self { y, u, v, luma_stride, chroma_stride, width, height } = self;
+        Yuv420Planes { width, height, y, luma_stride, u, v, chroma_stride }
     }
 
     /// The view as the library takes it.
@@ -193,10 +214,34 @@ impl fmt::Debug for Yuv420Frame {
     }
 }
 
-/// The row of a plane that the library found.
-fn part(plane: &[u8], row: Row) -> Option<&[u8]> {
-    library::done("row", row.number);
-    row.present.then(|| &plane[row.start..row.start + row.length])
+/// The planes that a [`Yuv420Frame`] was made of; see [`Yuv420Frame::into_planes`].
+#[derive(Clone, PartialEq, Eq)]
+pub struct Yuv420Planes {
+    /// Width of the picture in pixels.
+    pub width: u16,
+    /// Height of the picture in pixels.
+    pub height: u16,
+    /// The luma rows, `luma_stride` bytes each.
+    pub y: Vec<u8>,
+    /// Bytes from a luma row to the next.
+    pub luma_stride: usize,
+    /// The rows of U, `chroma_stride` bytes each.
+    pub u: Vec<u8>,
+    /// The rows of V, `chroma_stride` bytes each.
+    pub v: Vec<u8>,
+    /// Bytes from a chroma row to the next.
+    pub chroma_stride: usize,
+}
+
+impl fmt::Debug for Yuv420Planes {
+    fn fmt(&self, f: &mut fmt::Formatter<'_>) -> fmt::Result {
+        f.debug_struct("Yuv420Planes")
+            .field("width", &self.width)
+            .field("height", &self.height)
+            .field("luma_stride", &self.luma_stride)
+            .field("chroma_stride", &self.chroma_stride)
+            .finish_non_exhaustive()
+    }
 }
 
 /// Why something could not be decoded: what was tried, and perhaps the error below it.

@@ -12,7 +12,10 @@ pub mod geometry;
 #[allow(unsafe_code)]
 mod library;
 pub mod pdu;
+mod view;
 
+#[doc(no_inline)]
+pub use crate::decode::{AsYuv420View, Yuv420Planes, Yuv420View};
 #[doc(no_inline)]
 pub use crate::{
     avc444::{Avc444Layout, PixelCounts, WidthRule, Yuv444Frame},
