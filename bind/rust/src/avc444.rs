@@ -9,6 +9,7 @@ use crate::check::{CheckedPlane, CheckedView, SplitCheck};
 use crate::decode::{DecoderError, DecoderResult, Yuv420Frame};
 use crate::geometry::{ExclusiveRectangle, RectangleFault, UnsoundRectangle};
 use crate::library::{self, Size};
+pub use crate::output::OutputError;
 use crate::view::{AsYuv420View, Yuv420View};
 
 /// Where the auxiliary view keeps the chroma that the main view leaves out.
@@ -487,15 +488,69 @@ impl Yuv444Frame {
     /// assert_eq!(Yuv444Frame::new(2, 2).to_rgba_counted(&whole).1.stale, 4);
     /// ```
     pub fn to_rgba_counted(&self, rect: &ExclusiveRectangle) -> (Vec<u8>, PixelCounts) {
-        let across = rect.right.min(self.width).saturating_sub(rect.left);
-        let down = rect.bottom.min(self.height).saturating_sub(rect.top);
-        let mut rgba = vec![0; usize::from(across) * usize::from(down) * 4];
-        let (size, [y, u, v]) = self.lent();
-        let answer =
-            library::to_rgba(size, [y, u, v, &self.map], [rect.left, rect.top, rect.right, rect.bottom], &mut rgba);
-        library::done("to_rgba", answer.number);
-        rgba.truncate(answer.count);
-        (rgba, PixelCounts { filtered_u: answer.filtered_u, filtered_v: answer.filtered_v, stale: answer.stale })
+        let (across, down) = self.clipped(rect);
+        let mut rgba = vec![0; across * down * 4];
+        let (count, counts) = self.pixels([rect.left, rect.top, rect.right, rect.bottom], &mut rgba);
+        rgba.truncate(count);
+        (rgba, counts)
+    }
+
+    /// The same pixels into a buffer of the caller's: row after row, each `stride` bytes after the one before, from its first byte on.
+    ///
+    /// Bytes between the end of a row and the next one, and after the last row, stay as they are. Where `rect` has nothing of the
+    /// picture, nothing is written, and any buffer and stride will do. Where rows follow each other with nothing between, it is one call of
+    /// the library, else one for each row.
+    ///
+    /// # Errors
+    ///
+    /// When `stride` is narrower than a row of pixels, or `out` ends before the last row does. Then nothing is written.
+    ///
+    /// ```
+    /// use haythaw::{ExclusiveRectangle, PixelCounts, Yuv444Frame};
+    ///
+    /// // A window of 2 x 2 pixels, in rows of 12 bytes: two pixels, and four bytes that are not ours.
+    /// let picture = Yuv444Frame::from_rgba(&[255, 0, 0, 255].repeat(4 * 4), 4, 4).expect("4 x 4 pixels");
+    /// let corner = ExclusiveRectangle { left: 2, top: 2, right: 4, bottom: 4 };
+    /// let mut out = [7; 24];
+    /// let counts = picture.to_rgba_into(&corner, &mut out, 12)?;
+    /// assert_eq!(out, *[252, 0, 0, 255, 252, 0, 0, 255, 7, 7, 7, 7].repeat(2));
+    /// assert_eq!(counts, PixelCounts::default());
+    ///
+    /// let error = picture.to_rgba_into(&corner, &mut out[..19], 12).unwrap_err();
+    /// assert_eq!(error.to_string(), "the output has 19 bytes, and the rows of pixels take 20");
+    /// # Ok::<(), haythaw::OutputError>(())
+    /// ```
+    pub fn to_rgba_into(
+        &self,
+        rect: &ExclusiveRectangle,
+        out: &mut [u8],
+        stride: usize,
+    ) -> Result<PixelCounts, OutputError> {
+        let (across, down) = self.clipped(rect);
+        if across == 0 || down == 0 {
+            return Ok(PixelCounts::default());
+        }
+        let row = across * 4;
+        if stride < row {
+            return Err(OutputError::StrideNarrow { stride, row });
+        }
+        // No slice is as long as the largest number.
+        let needed = stride.saturating_mul(down - 1).saturating_add(row);
+        if out.len() < needed {
+            return Err(OutputError::OutputShort { length: out.len(), needed });
+        }
+        let out = &mut out[..needed];
+        if stride == row {
+            return Ok(self.pixels([rect.left, rect.top, rect.right, rect.bottom], out).1);
+        }
+        let mut all = PixelCounts::default();
+        for (out, top) in out.chunks_mut(stride).zip(rect.top..) {
+            let (_, counts) = self.pixels([rect.left, top, rect.right, top + 1], &mut out[..row]);
+            all.filtered_u += counts.filtered_u;
+            all.filtered_v += counts.filtered_v;
+            all.stale += counts.stale;
+        }
+        Ok(all)
     }
 
     /// Splits the picture into its main view and its auxiliary view, both as large as the padded planes.
@@ -646,6 +701,22 @@ impl Yuv444Frame {
         }
         library::done(call, number);
         Ok(())
+    }
+
+    /// How many columns and rows of a rectangle are in the picture.
+    fn clipped(&self, rect: &ExclusiveRectangle) -> (usize, usize) {
+        let across = rect.right.min(self.width).saturating_sub(rect.left);
+        let down = rect.bottom.min(self.height).saturating_sub(rect.top);
+        (across.into(), down.into())
+    }
+
+    /// The pixels of a rectangle by the library, into a buffer that has room for them: how many bytes that are, and what was counted.
+    fn pixels(&self, rect: [u16; 4], out: &mut [u8]) -> (usize, PixelCounts) {
+        let (size, [y, u, v]) = self.lent();
+        let answer = library::to_rgba(size, [y, u, v, &self.map], rect, out);
+        library::done("to_rgba", answer.number);
+        let library::Pixels { count, filtered_u, filtered_v, stale, .. } = answer;
+        (count, PixelCounts { filtered_u, filtered_v, stale })
     }
 
     /// Both views by a call of the library that makes them as wide as the width rounded up to `unit`.

@@ -11,11 +11,15 @@ pub mod decode;
 pub mod geometry;
 #[allow(unsafe_code)]
 mod library;
+mod output;
 pub mod pdu;
 mod view;
 
 #[doc(no_inline)]
-pub use crate::decode::{AsYuv420View, Yuv420Planes, Yuv420View};
+pub use crate::{
+    avc444::OutputError,
+    decode::{AsYuv420View, Yuv420Planes, Yuv420View},
+};
 #[doc(no_inline)]
 pub use crate::{
     avc444::{Avc444Layout, PixelCounts, WidthRule, Yuv444Frame},

@@ -5,7 +5,7 @@ mod calls;
 mod rects;
 
 pub use calls::*;
-pub use haythaw_sys::{Pair, Places, Rectangle, Row, Views};
+pub use haythaw_sys::{Pair, Pixels, Places, Rectangle, Row, Views};
 pub use rects::numbers_of;
 
 /// Goes on after a call that the types of this crate leave no reason to refuse.
