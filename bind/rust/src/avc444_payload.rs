@@ -152,6 +152,24 @@ impl<'a> Stream<'a> {
         &self.payload[self.places.pairs..self.places.data]
     }
 
+    /// The pairs where they stand in the payload, as [`StreamParts`] takes them.
+    ///
+    /// ```
+    /// use haythaw::{Avc444Payload, PayloadParts, QuantQuality, StreamParts};
+    ///
+    /// // What was read is written again, with no rectangle changed and other H.264 bytes.
+    /// let bytes = [14, 0, 0, 0x40, 1, 0, 0, 0, 0, 0, 0, 0, 16, 0, 16, 0, 0x96, 100];
+    /// let luma = Avc444Payload::read(&bytes)?.luma().expect("kind 1 has it");
+    /// assert_eq!(luma.pair_list(), [QuantQuality::from_bytes([0x96, 100])]);
+    /// let rectangles: Vec<_> = luma.rectangles().collect();
+    /// let parts = StreamParts { rectangles: &rectangles, pairs: luma.pair_list(), h264: luma.h264() };
+    /// assert_eq!(PayloadParts::Luma(parts).write()?, bytes);
+    /// # Ok::<(), Box<dyn std::error::Error>>(())
+    /// ```
+    pub fn pair_list(&self) -> &'a [QuantQuality] {
+        library::pairs_of(self.pair_bytes())
+    }
+
     /// The H.264 bytes.
     pub fn h264(&self) -> &'a [u8] {
         &self.payload[self.places.data..self.places.data + self.places.length]
@@ -183,7 +201,7 @@ impl<'a> Stream<'a> {
     ///
     /// let bytes = [0, 0, 0, 0x40, 1, 0, 0, 0, 0, 0, 0, 0, 16, 0, 16, 0, 0x96, 100];
     /// let luma = Avc444Payload::read(&bytes)?.luma().expect("kind 1 has it");
-    /// let pair = QuantQuality { value: 22, reserved: false, progressive: true, quality: 100 };
+    /// let pair = QuantQuality::new(22, 100).expect("at most 63").with_progressive(true);
     /// assert!(luma.pairs().eq([pair]));
     /// # Ok::<(), haythaw::avc444_payload::ReadError>(())
     /// ```
@@ -194,8 +212,29 @@ impl<'a> Stream<'a> {
         })
     }
 
-    /// Copies the rectangles into `out`, four numbers each (left, top, right, bottom), and gives how many numbers that are. What `out`
-    /// has after them stays.
+    /// Copies the rectangles into `out`, and gives how many they are. What `out` has after them stays.
+    ///
+    /// # Errors
+    ///
+    /// [`ReadError::OutputShort`] when `out` has room for fewer. Then nothing is written.
+    ///
+    /// ```
+    /// use haythaw::avc444_payload::{Avc444Payload, ReadError};
+    /// use haythaw::geometry::ExclusiveRectangle;
+    ///
+    /// let bytes = [0, 0, 0, 0x40, 1, 0, 0, 0, 0, 0, 0, 0, 16, 0, 0, 1, 22, 100];
+    /// let luma = Avc444Payload::read(&bytes)?.luma().expect("kind 1 has it");
+    /// let mut list = [ExclusiveRectangle::from([9; 4]); 2];
+    /// assert_eq!(luma.copy_rectangle_list(&mut list)?, 1);
+    /// assert_eq!(list.map(<[u16; 4]>::from), [[0, 0, 16, 256], [9; 4]]);
+    /// assert_eq!(luma.copy_rectangle_list(&mut []), Err(ReadError::OutputShort));
+    /// # Ok::<(), ReadError>(())
+    /// ```
+    pub fn copy_rectangle_list(&self, out: &mut [ExclusiveRectangle]) -> Result<usize, ReadError> {
+        Ok(self.copy_rectangles(library::numbers_of_mut(out))? / 4)
+    }
+
+    /// The same into numbers, four for each rectangle (left, top, right, bottom); gives how many numbers that are.
     ///
     /// # Errors
     ///
@@ -244,12 +283,8 @@ fn rectangle(found: Rectangle) -> ExclusiveRectangle {
 /// The pair that the library read.
 fn pair(found: Pair) -> QuantQuality {
     counted("avc444_pair", found.number, found.present);
-    QuantQuality {
-        value: found.value,
-        reserved: found.reserved,
-        progressive: found.progressive,
-        quality: found.quality,
-    }
+    let pair = QuantQuality::new(found.value, found.quality).expect("haythaw: avc444_pair answered a value above 63");
+    pair.with_reserved(found.reserved).with_progressive(found.progressive)
 }
 
 /// Goes on after a call for what the library itself has counted.
@@ -259,32 +294,113 @@ fn counted(call: &str, number: u32, present: bool) {
     assert!(present, "haythaw: {call} did not find what avc444_read counted");
 }
 
-/// How one rectangle's part of the picture was coded.
-#[derive(Debug, Clone, Copy, PartialEq, Eq)]
-pub struct QuantQuality {
-    /// The quantiser: the low six bits of its byte, 0 to 63.
-    pub value: u8,
-    /// Bit 6 of the quantiser byte, which the standard reserves.
-    pub reserved: bool,
-    /// Bit 7 of the quantiser byte: the part is coded progressively.
-    pub progressive: bool,
-    /// The quality byte.
-    pub quality: u8,
-}
+/// How one rectangle's part of the picture was coded: a quantiser and a quality, for the reader and for the writer.
+///
+/// ```
+/// use haythaw::avc444_payload::QuantQuality;
+///
+/// let pair = QuantQuality::new(22, 100).expect("at most 63").with_progressive(true);
+/// assert_eq!((pair.value(), pair.reserved(), pair.progressive(), pair.quality()), (22, false, true, 100));
+/// assert_eq!(pair.to_bytes(), [0x96, 100]);
+/// assert_eq!(QuantQuality::from_bytes([0x96, 100]), pair);
+/// assert_eq!(QuantQuality::new(64, 100), None);
+/// ```
+// The library takes a list of pairs as bytes in twos, in this order: `library::bytes_of` counts on it.
+#[repr(transparent)]
+#[derive(Clone, Copy, PartialEq, Eq, Hash)]
+pub struct QuantQuality([u8; 2]);
 
 impl QuantQuality {
-    /// The two bytes that a payload has for it, quantiser and quality, or `None` where `value` is above 63 and has no room there.
+    const VALUE: u8 = 0x3F;
+    const RESERVED: u8 = 0x40;
+    const PROGRESSIVE: u8 = 0x80;
+
+    /// A pair that is not progressive, or `None` where `value` is above 63 and has no room in its byte.
+    pub const fn new(value: u8, quality: u8) -> Option<Self> {
+        if value <= Self::VALUE {
+            Some(Self([value, quality]))
+        } else {
+            None
+        }
+    }
+
+    /// The pair that a payload has these two bytes for: quantiser and quality. Any two are one.
+    pub const fn from_bytes(bytes: [u8; 2]) -> Self {
+        Self(bytes)
+    }
+
+    /// The two bytes that a payload has for it: quantiser and quality.
+    pub const fn to_bytes(self) -> [u8; 2] {
+        self.0
+    }
+
+    /// The pairs of a list of bytes, which is lent and not copied.
     ///
     /// ```
     /// use haythaw::avc444_payload::QuantQuality;
     ///
-    /// let pair = QuantQuality { value: 22, reserved: false, progressive: true, quality: 100 };
-    /// assert_eq!(pair.to_bytes(), Some([0x96, 100]));
-    /// assert_eq!(QuantQuality { value: 64, ..pair }.to_bytes(), None);
+    /// assert_eq!(QuantQuality::list(&[[22, 100], [0x96, 50]])[1].value(), 22);
     /// ```
-    pub fn to_bytes(self) -> Option<[u8; 2]> {
-        let flags = u8::from(self.reserved) << 6 | u8::from(self.progressive) << 7;
-        (self.value < 64).then_some([self.value | flags, self.quality])
+    pub fn list(bytes: &[[u8; 2]]) -> &[Self] {
+        library::pairs_of(bytes.as_flattened())
+    }
+
+    /// The quantiser: the low six bits of its byte, 0 to 63.
+    pub const fn value(self) -> u8 {
+        self.0[0] & Self::VALUE
+    }
+
+    /// Bit 6 of the quantiser byte, which the standard reserves.
+    pub const fn reserved(self) -> bool {
+        self.0[0] & Self::RESERVED != 0
+    }
+
+    /// Bit 7 of the quantiser byte: the part is coded progressively.
+    pub const fn progressive(self) -> bool {
+        self.0[0] & Self::PROGRESSIVE != 0
+    }
+
+    /// The quality byte.
+    pub const fn quality(self) -> u8 {
+        self.0[1]
+    }
+
+    /// The same pair with bit 6 of the quantiser byte so.
+    pub const fn with_reserved(self, reserved: bool) -> Self {
+        self.with(Self::RESERVED, reserved)
+    }
+
+    /// The same pair, coded progressively or not.
+    pub const fn with_progressive(self, progressive: bool) -> Self {
+        self.with(Self::PROGRESSIVE, progressive)
+    }
+
+    const fn with(self, bit: u8, set: bool) -> Self {
+        let [quantiser, quality] = self.0;
+        Self([if set { quantiser | bit } else { quantiser & !bit }, quality])
+    }
+}
+
+impl From<[u8; 2]> for QuantQuality {
+    fn from(bytes: [u8; 2]) -> Self {
+        Self::from_bytes(bytes)
+    }
+}
+
+impl From<QuantQuality> for [u8; 2] {
+    fn from(pair: QuantQuality) -> Self {
+        pair.to_bytes()
+    }
+}
+
+impl fmt::Debug for QuantQuality {
+    fn fmt(&self, f: &mut fmt::Formatter<'_>) -> fmt::Result {
+        f.debug_struct("QuantQuality")
+            .field("value", &self.value())
+            .field("reserved", &self.reserved())
+            .field("progressive", &self.progressive())
+            .field("quality", &self.quality())
+            .finish()
     }
 }
 
@@ -405,8 +521,8 @@ impl core::error::Error for ReadError {}
 pub struct StreamParts<'a> {
     /// The rectangles. Any four numbers are one.
     pub rectangles: &'a [ExclusiveRectangle],
-    /// A quantiser byte and a quality byte for each rectangle; [`QuantQuality::to_bytes`] makes them.
-    pub pairs: &'a [[u8; 2]],
+    /// A pair for each rectangle; [`QuantQuality::list`] makes them of bytes.
+    pub pairs: &'a [QuantQuality],
     /// The H.264 bytes.
     pub h264: &'a [u8],
 }
@@ -414,7 +530,7 @@ pub struct StreamParts<'a> {
 impl<'a> StreamParts<'a> {
     /// As the library takes them, uncopied.
     fn given(self) -> Given<'a> {
-        Given { rects: library::numbers_of(self.rectangles), pairs: self.pairs.as_flattened(), data: self.h264 }
+        Given { rects: library::numbers_of(self.rectangles), pairs: library::bytes_of(self.pairs), data: self.h264 }
     }
 
     /// The stream's bytes, or `None` where `usize` has no such number.
@@ -437,11 +553,12 @@ impl fmt::Debug for StreamParts<'_> {
 /// What a payload is written from: the streams that it is to carry.
 ///
 /// ```
-/// use haythaw::avc444_payload::{Avc444Payload, PayloadParts, StreamParts};
+/// use haythaw::avc444_payload::{Avc444Payload, PayloadParts, QuantQuality, StreamParts};
 /// use haythaw::geometry::ExclusiveRectangle;
 ///
 /// let rectangles = [ExclusiveRectangle { left: 0, top: 0, right: 64, bottom: 32 }];
-/// let luma = StreamParts { rectangles: &rectangles, pairs: &[[22, 100]], h264: &[0x67, 0x42, 0x1F] };
+/// let pairs = [QuantQuality::new(22, 100).expect("at most 63")];
+/// let luma = StreamParts { rectangles: &rectangles, pairs: &pairs, h264: &[0x67, 0x42, 0x1F] };
 /// let chroma = StreamParts { h264: &[0x68, 0xCE], ..StreamParts::default() };
 /// let bytes = PayloadParts::Both { luma, chroma }.write()?;
 /// assert_eq!(
@@ -535,12 +652,12 @@ impl PayloadParts<'_> {
     /// As for [`write_into`](Self::write_into); [`WriteError::OutputShort`] only where the payload is longer than `usize` has numbers for.
     ///
     /// ```
-    /// use haythaw::avc444_payload::{PayloadParts, StreamParts, WriteError};
+    /// use haythaw::avc444_payload::{PayloadParts, QuantQuality, StreamParts, WriteError};
     ///
     /// let parts = StreamParts { h264: &[0x67, 0x42], ..StreamParts::default() };
     /// assert_eq!(PayloadParts::Luma(parts).write()?, [6, 0, 0, 0x40, 0, 0, 0, 0, 0x67, 0x42]);
     ///
-    /// let uneven = StreamParts { pairs: &[[22, 100]], ..parts };
+    /// let uneven = StreamParts { pairs: QuantQuality::list(&[[22, 100]]), ..parts };
     /// assert_eq!(PayloadParts::Luma(uneven).write(), Err(WriteError::PairsUneven));
     /// # Ok::<(), WriteError>(())
     /// ```

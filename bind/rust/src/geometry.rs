@@ -27,6 +27,27 @@ pub struct ExclusiveRectangle {
     pub bottom: u16,
 }
 
+/// Left, top, right and bottom, as the library and the wire have them.
+///
+/// ```
+/// use haythaw::geometry::ExclusiveRectangle;
+///
+/// let tick = ExclusiveRectangle::from([3, 0, 4, 8]);
+/// assert_eq!(tick, ExclusiveRectangle { left: 3, top: 0, right: 4, bottom: 8 });
+/// assert_eq!(<[u16; 4]>::from(tick), [3, 0, 4, 8]);
+/// ```
+impl From<[u16; 4]> for ExclusiveRectangle {
+    fn from([left, top, right, bottom]: [u16; 4]) -> Self {
+        Self { left, top, right, bottom }
+    }
+}
+
+impl From<ExclusiveRectangle> for [u16; 4] {
+    fn from(rect: ExclusiveRectangle) -> Self {
+        [rect.left, rect.top, rect.right, rect.bottom]
+    }
+}
+
 /// The first rectangle of a list that is not sound: that is empty, reversed or reaches past the picture.
 ///
 /// The original has no such type; it clips. [`Yuv444Frame::apply_main_view_strict`] and its likes refuse a list with it, and

@@ -22,7 +22,10 @@ const LUMA_PAIRS: [QuantQuality; 2] = [pair(22, false, false, 100), pair(63, tru
 const CHROMA_PAIRS: [QuantQuality; 1] = [pair(5, false, true, 255)];
 
 const fn pair(value: u8, reserved: bool, progressive: bool, quality: u8) -> QuantQuality {
-    QuantQuality { value, reserved, progressive, quality }
+    match QuantQuality::new(value, quality) {
+        Some(pair) => pair.with_reserved(reserved).with_progressive(progressive),
+        None => panic!("a value above 63"),
+    }
 }
 
 fn rect([left, top, right, bottom]: [u16; 4]) -> ExclusiveRectangle {
@@ -77,6 +80,15 @@ fn assert_stream(stream: Stream<'_>, rects: &[[u16; 4]], pairs: &[QuantQuality],
     let mut out = vec![9; 4 * rects.len() + 1];
     assert_eq!(stream.copy_rectangles(&mut out), Ok(4 * rects.len()));
     assert_eq!(out, [rects.as_flattened(), &[9]].concat());
+    assert_eq!(stream.pair_list(), pairs);
+    let mut list = vec![rect([9; 4]); rects.len() + 1];
+    assert_eq!(stream.copy_rectangle_list(&mut list), Ok(rects.len()));
+    assert_eq!(list, rects.iter().copied().chain([[9; 4]]).map(ExclusiveRectangle::from).collect::<Vec<_>>());
+    if let Some(fewer) = rects.len().checked_sub(1) {
+        let mut short = vec![rect([9; 4]); fewer];
+        assert_eq!(stream.copy_rectangle_list(&mut short), Err(ReadError::OutputShort));
+        assert!(short.iter().all(|found| *found == rect([9; 4])));
+    }
 }
 
 #[test]

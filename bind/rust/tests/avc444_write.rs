@@ -7,10 +7,14 @@ use haythaw::{
 
 const RECTS: [ExclusiveRectangle; 3] = [rect([1, 2, 3, 4]), rect([256, 65_535, 32_768, 128]), rect([5, 6, 7, 264])];
 const TWO: StreamParts<'static> =
-    StreamParts { rectangles: RECTS.split_at(2).0, pairs: &[[22, 100], [255, 0]], h264: &[7, 8, 9] };
+    StreamParts { rectangles: RECTS.split_at(2).0, pairs: &[pair(22, 100), pair(255, 0)], h264: &[7, 8, 9] };
 const ONE: StreamParts<'static> =
-    StreamParts { rectangles: RECTS.split_at(2).1, pairs: &[[0x85, 255]], h264: &[11, 12] };
+    StreamParts { rectangles: RECTS.split_at(2).1, pairs: &[pair(0x85, 255)], h264: &[11, 12] };
 const NONE: StreamParts<'static> = StreamParts { rectangles: &[], pairs: &[], h264: &[] };
+
+const fn pair(quantiser: u8, quality: u8) -> QuantQuality {
+    QuantQuality::from_bytes([quantiser, quality])
+}
 
 const TWO_BYTES: [u8; 27] =
     [2, 0, 0, 0, 1, 0, 2, 0, 3, 0, 4, 0, 0, 1, 255, 255, 0, 128, 128, 0, 22, 100, 255, 0, 7, 8, 9];
@@ -40,9 +44,8 @@ fn by_hand() -> [(PayloadParts<'static>, Vec<u8>); 9] {
 }
 
 /// A stream's rectangles and pairs as a writer takes them.
-fn lists(stream: Stream<'_>) -> (Vec<ExclusiveRectangle>, Vec<[u8; 2]>) {
-    let pairs = stream.pairs().map(|pair| pair.to_bytes().expect("six bits of value"));
-    (stream.rectangles().collect(), pairs.collect())
+fn lists(stream: Stream<'_>) -> (Vec<ExclusiveRectangle>, Vec<QuantQuality>) {
+    (stream.rectangles().collect(), stream.pairs().collect())
 }
 
 #[track_caller]
@@ -95,7 +98,7 @@ fn stream(parts: &StreamParts<'_>) -> Vec<u8> {
     for rect in parts.rectangles {
         bytes.extend([rect.left, rect.top, rect.right, rect.bottom].map(u16::to_le_bytes).as_flattened());
     }
-    bytes.extend(parts.pairs.as_flattened());
+    bytes.extend(parts.pairs.iter().flat_map(|pair| pair.to_bytes()));
     bytes.extend(parts.h264);
     bytes
 }
@@ -103,7 +106,7 @@ fn stream(parts: &StreamParts<'_>) -> Vec<u8> {
 #[test]
 fn many_rectangles_and_bytes() {
     let rectangles: Vec<_> = (0..3_000_u16).map(|i| rect([i, 65_535 - i, i.wrapping_mul(257), i ^ 0x5A5A])).collect();
-    let pairs: Vec<_> = (0..3_000_u16).map(u16::to_be_bytes).collect();
+    let pairs: Vec<_> = (0..3_000_u16).map(|i| QuantQuality::from(i.to_be_bytes())).collect();
     let h264: Vec<_> = (0..70_000_u32).map(|i| (i.wrapping_mul(2_654_435_761) >> 23).to_le_bytes()[0]).collect();
     for (count, length) in [(1, 65_536), (255, 0), (256, 1), (257, 300), (3_000, 70_000)] {
         let luma = StreamParts { rectangles: &rectangles[..count], pairs: &pairs[..count], h264: &h264[..length] };
@@ -157,7 +160,7 @@ fn each_refusal_in_its_order() {
         error
     };
     for long in [NONE, StreamParts { h264: &zeros, ..NONE }] {
-        for pairs in [&[[1, 2]][..], &[[1, 2]; 3], &[]] {
+        for pairs in [&[pair(1, 2)][..], &[pair(1, 2); 3], &[]] {
             let uneven = StreamParts { pairs, ..if pairs.is_empty() { ONE } else { TWO } };
             for parts in [
                 Both { luma: uneven, chroma: long },
@@ -209,18 +212,23 @@ fn errors_have_a_number_and_a_text() {
 #[test]
 fn every_quantiser_byte() {
     for byte in 0..=255_u8 {
-        let pair = QuantQuality {
-            value: byte % 64,
-            reserved: byte / 64 % 2 == 1,
-            progressive: byte / 128 == 1,
-            quality: byte.wrapping_mul(7),
-        };
-        assert_eq!(pair.to_bytes(), Some([byte, pair.quality]));
-        let given = [[byte, pair.quality]];
-        let parts = PayloadParts::Luma(StreamParts { rectangles: &RECTS[..1], pairs: &given, h264: &[] });
+        let quality = byte.wrapping_mul(7);
+        let pair = QuantQuality::new(byte % 64, quality).expect("six bits of value");
+        let pair = pair.with_reserved(byte / 64 % 2 == 1).with_progressive(byte / 128 == 1);
+        assert_eq!(pair.to_bytes(), [byte, quality]);
+        assert_eq!(
+            (pair.value(), pair.reserved(), pair.progressive(), pair.quality()),
+            (byte % 64, byte / 64 % 2 == 1, byte / 128 == 1, quality)
+        );
+        assert_eq!((QuantQuality::from([byte, quality]), <[u8; 2]>::from(pair)), (pair, [byte, quality]));
+        assert_eq!(pair.with_reserved(false).with_progressive(false).to_bytes(), [byte % 64, quality]);
+        let pairs = [pair];
+        let parts = PayloadParts::Luma(StreamParts { rectangles: &RECTS[..1], pairs: &pairs, h264: &[] });
         let bytes = parts.write().expect("a pair for its rectangle");
-        assert!(Avc444Payload::read(&bytes).expect("it was written").luma().expect("kind 1").pairs().eq([pair]));
-        assert_eq!(QuantQuality { value: byte, ..pair }.to_bytes().is_some(), byte < 64);
+        let luma = Avc444Payload::read(&bytes).expect("it was written").luma().expect("kind 1");
+        assert!(luma.pairs().eq([pair]));
+        assert_eq!(luma.pair_list(), [pair]);
+        assert_eq!(QuantQuality::new(byte, quality).is_some(), byte < 64);
     }
 }
 

@@ -12,17 +12,25 @@ pub fn numbers_of(rects: &[ExclusiveRectangle]) -> &[u16] {
     unsafe { core::slice::from_raw_parts(rects.as_ptr().cast(), 4 * rects.len()) }
 }
 
+/// The same, to be written. Any four numbers are a rectangle.
+pub fn numbers_of_mut(rects: &mut [ExclusiveRectangle]) -> &mut [u16] {
+    // SAFETY: the same, and the argument is borrowed to be written as long as the result is.
+    unsafe { core::slice::from_raw_parts_mut(rects.as_mut_ptr().cast(), 4 * rects.len()) }
+}
+
 #[cfg(test)]
 mod tests {
     use super::*;
 
     #[test]
     fn a_list_is_its_numbers_in_fours() {
-        let rects = [
+        let mut rects = [
             ExclusiveRectangle { left: 1, top: 2, right: 3, bottom: 4 },
             ExclusiveRectangle { left: 65_535, top: 6, right: 7, bottom: 0 },
         ];
         assert_eq!(numbers_of(&rects), [1, 2, 3, 4, 65_535, 6, 7, 0]);
-        assert!(numbers_of(&[]).is_empty());
+        assert!(numbers_of(&[]).is_empty() && numbers_of_mut(&mut []).is_empty());
+        numbers_of_mut(&mut rects)[3..5].copy_from_slice(&[8, 9]);
+        assert_eq!((rects[0].bottom, rects[1].left), (8, 9));
     }
 }
