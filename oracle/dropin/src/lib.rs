@@ -52,9 +52,58 @@ mod over_both {
     include!("harness.rs");
 }
 
+// Conversions between our types and the original's own.
+#[cfg(test)]
+mod convert {
+    haythaw::ironrdp_types! {
+        rectangle: ironrdp_pdu::geometry::ExclusiveRectangle,
+        view: original::decode::Yuv420Frame,
+        frame: original::decode::DecodedFrame,
+    }
+}
+
 #[cfg(test)]
 mod tests {
+    use super::convert::{IntoHaythaw, IntoIronrdp};
     use super::*;
+
+    #[test]
+    fn a_rectangle_goes_over_and_back() {
+        let ours = [[1, 2, 3, 4], [65_535, 6, 7, 0]].map(haythaw::ExclusiveRectangle::from);
+        let theirs = ours.into_ironrdp();
+        for (ours, theirs) in ours.into_iter().zip(theirs.iter()) {
+            assert_eq!([theirs.left, theirs.top, theirs.right, theirs.bottom], <[u16; 4]>::from(ours));
+            assert_eq!(ours.into_ironrdp(), *theirs);
+            assert_eq!(theirs.into_haythaw(), ours);
+        }
+        assert_eq!(theirs.into_haythaw(), ours);
+    }
+
+    #[test]
+    fn a_view_goes_over_and_back() {
+        for (width, height) in [(0, 0), (0, 3), (3, 0), (1, 1), (5, 3), (16, 16), (17, 9)] {
+            for more in [0, 3] {
+                let (luma, chroma) = (usize::from(width) + more, usize::from(width).div_ceil(2) + more);
+                let (rows, half) = (usize::from(height), usize::from(height).div_ceil(2));
+                let plane = |count: usize, first: u8| (0..count).map(|at| at as u8 ^ first).collect::<Vec<_>>();
+                let (y, u, v) = (plane(luma * rows, 1), plane(chroma * half, 2), plane(chroma * half, 3));
+                let ours = haythaw::Yuv420Frame::new(width, height, y, luma, u, v, chroma).expect("whole planes");
+                let theirs = ours.clone().into_ironrdp();
+                let back = theirs.into_haythaw();
+                assert_eq!((back.width(), back.height()), (width, height));
+                for row in 0..rows + 1 {
+                    assert_eq!((ours.luma_row(row), ours.u_row(row)), (theirs.luma_row(row), theirs.u_row(row)));
+                    assert_eq!(ours.v_row(row), theirs.v_row(row));
+                    assert_eq!((ours.luma_row(row), ours.u_row(row)), (back.luma_row(row), back.u_row(row)));
+                    assert_eq!(ours.v_row(row), back.v_row(row));
+                }
+                let shown = theirs.to_rgba().into_haythaw();
+                assert_eq!((shown.width(), shown.height()), (width.into(), height.into()));
+                assert_eq!(shown.data(), ours.to_rgba().data());
+                assert_eq!(shown.into_ironrdp().data(), theirs.to_rgba().data());
+            }
+        }
+    }
 
     // With debug assertions, and with the original's arithmetic checked for overflow: what a frame of wrong length says when it panics
     // is compared too.
