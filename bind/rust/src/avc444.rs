@@ -640,14 +640,14 @@ impl Yuv444Frame {
     pub fn check_split(
         &self,
         layout: Avc444Layout,
-        main: &Yuv420Frame,
-        auxiliary: &Yuv420Frame,
+        main: &(impl AsYuv420View + ?Sized),
+        auxiliary: &(impl AsYuv420View + ?Sized),
     ) -> DecoderResult<SplitCheck> {
         let check = match layout {
             Avc444Layout::V1 => library::check_v1,
             Avc444Layout::V2 => library::check_v2,
         };
-        self.check_by(check, main, auxiliary, || self.split(layout))
+        self.check_by(check, main.as_view(), auxiliary.as_view(), || self.split(layout))
     }
 
     /// The same for views of layout V2, by a rule for the width: whether they are what [`Self::split_v2`] makes.
@@ -674,15 +674,15 @@ impl Yuv444Frame {
     pub fn check_split_v2(
         &self,
         rule: WidthRule,
-        main: &Yuv420Frame,
-        auxiliary: &Yuv420Frame,
+        main: &(impl AsYuv420View + ?Sized),
+        auxiliary: &(impl AsYuv420View + ?Sized),
     ) -> DecoderResult<SplitCheck> {
         let check = match rule {
             WidthRule::To16 => library::check_v2,
             WidthRule::To32 => library::check_v2_32,
             WidthRule::Exact => return Err(not_rounded()),
         };
-        self.check_by(check, main, auxiliary, || self.split_v2(rule))
+        self.check_by(check, main.as_view(), auxiliary.as_view(), || self.split_v2(rule))
     }
 
     /// A view by a strict call of the library, which refuses nothing but a list that is not sound.
@@ -739,8 +739,8 @@ impl Yuv444Frame {
     fn check_by(
         &self,
         check: Checking,
-        main: &Yuv420Frame,
-        auxiliary: &Yuv420Frame,
+        main: Yuv420View<'_>,
+        auxiliary: Yuv420View<'_>,
         split: impl FnOnce() -> DecoderResult<(Yuv420Frame, Yuv420Frame)>,
     ) -> DecoderResult<SplitCheck> {
         let (size, planes) = self.lent();
@@ -752,16 +752,17 @@ impl Yuv444Frame {
         if checked.same {
             return Ok(SplitCheck::Same);
         }
-        let (right_main, right_auxiliary) = split()?;
+        let right = split()?;
+        let (right_main, right_auxiliary) = (right.0.as_view(), right.1.as_view());
         if checked.named {
             let (view, plane) = (CheckedView::of(checked.view), CheckedPlane::of(checked.plane));
             let (row, column) = (checked.row, checked.column);
             let found = plane.sample(view.among(main, auxiliary), row, column);
-            let expected = plane.sample(view.among(&right_main, &right_auxiliary), row, column);
+            let expected = plane.sample(view.among(right_main, right_auxiliary), row, column);
             return Ok(SplitCheck::Wrong { view, plane, row, column, found, expected });
         }
-        let sizes = |view: &Yuv420Frame| (view.width(), view.height());
-        let expected = sizes(&right_main);
+        let sizes = |view: Yuv420View<'_>| (view.width(), view.height());
+        let expected = sizes(right_main);
         let view = if sizes(main) == expected { CheckedView::Auxiliary } else { CheckedView::Main };
         Ok(SplitCheck::Sizes { view, found: sizes(view.among(main, auxiliary)), expected })
     }

@@ -7,7 +7,7 @@
 
 use core::fmt;
 
-use crate::decode::Yuv420Frame;
+use crate::view::Yuv420View;
 
 /// Whether two views are the split of a picture, and if not, why: as a sentence, too.
 ///
@@ -107,7 +107,7 @@ impl CheckedView {
     }
 
     /// That one of two.
-    pub(crate) fn among<'a>(self, main: &'a Yuv420Frame, auxiliary: &'a Yuv420Frame) -> &'a Yuv420Frame {
+    pub(crate) fn among<'a>(self, main: Yuv420View<'a>, auxiliary: Yuv420View<'a>) -> Yuv420View<'a> {
         match self {
             Self::Main => main,
             Self::Auxiliary => auxiliary,
@@ -155,7 +155,7 @@ impl CheckedPlane {
     /// # Panics
     ///
     /// If the view has no such sample, which would be a bug of this crate.
-    pub(crate) fn sample(self, view: &Yuv420Frame, row: u16, column: u16) -> u8 {
+    pub(crate) fn sample(self, view: Yuv420View<'_>, row: u16, column: u16) -> u8 {
         let samples = match self {
             Self::Y => view.luma_row(row.into()),
             Self::U => view.u_row(row.into()),

@@ -4,7 +4,9 @@ use std::cell::RefCell;
 use std::rc::Rc;
 use std::sync::{Arc, Mutex};
 
-use haythaw::{AsYuv420View, Avc444Layout, ExclusiveRectangle, Yuv420Frame, Yuv420Planes, Yuv420View, Yuv444Frame};
+use haythaw::{
+    AsYuv420View, Avc444Layout, ExclusiveRectangle, SplitCheck, Yuv420Frame, Yuv420Planes, Yuv420View, Yuv444Frame,
+};
 
 fn noise(count: usize, first: usize) -> Vec<u8> {
     (first..first + count).map(|at| (at.wrapping_mul(2_654_435_761) >> 13) as u8).collect()
@@ -113,6 +115,22 @@ fn a_picture_takes_a_view_as_it_takes_the_frame() {
             assert_eq!(with_views.map(), with_frames.map());
         }
         assert_eq!(with_views.apply_main_view_strict(&view(&main), rects), Ok(()));
+    }
+}
+
+#[test]
+fn a_split_is_checked_over_borrowed_planes() {
+    let picture = Yuv444Frame::from_rgba(&noise(21 * 18 * 4, 1), 21, 18).expect("21 x 18 pixels");
+    for layout in [Avc444Layout::V1, Avc444Layout::V2] {
+        let (main, auxiliary) = picture.split(layout).expect("no side is above 65,520");
+        let (main, mut auxiliary) = (main.into_planes(), auxiliary.into_planes());
+        let said = picture.check_split(layout, &view(&main), &view(&auxiliary)).expect("nor here");
+        assert_eq!(said, SplitCheck::Same);
+
+        auxiliary.v[auxiliary.chroma_stride + 3] ^= 1;
+        let said = picture.check_split(layout, &view(&main), &view(&auxiliary)).expect("nor here");
+        assert!(said.to_string().starts_with("auxiliary view, V, row 1, column 3: "));
+        assert_eq!(said, picture.check_split(layout, &frame(main), &frame(auxiliary)).expect("nor here"));
     }
 }
 

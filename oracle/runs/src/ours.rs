@@ -5,7 +5,7 @@
 mod calls;
 
 pub use calls::*;
-pub use haythaw_sys::{Answer, Pair, Pixels, Places, Rectangle, Row, Views};
+pub use haythaw_sys::{Answer, Checked, Pair, Pixels, Places, Rectangle, Row, Views};
 
 #[repr(C)]
 struct Yuv {

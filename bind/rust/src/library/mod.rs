@@ -6,7 +6,7 @@ mod pairs;
 mod rects;
 
 pub use calls::*;
-pub use haythaw_sys::{Pair, Pixels, Places, Rectangle, Row, Views};
+pub use haythaw_sys::{Checked, Pair, Pixels, Places, Rectangle, Row, Views};
 pub use pairs::{bytes_of, pairs_of};
 pub use rects::{numbers_of, numbers_of_mut};
 

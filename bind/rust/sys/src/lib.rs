@@ -6,6 +6,7 @@
 mod annex_b;
 mod apply;
 mod avc444;
+mod check;
 mod picture;
 mod split;
 mod strict;
@@ -16,6 +17,7 @@ mod view;
 pub use annex_b::*;
 pub use apply::*;
 pub use avc444::*;
+pub use check::*;
 pub use picture::*;
 pub use split::*;
 pub use strict::*;

@@ -1,58 +1,11 @@
 //! Whether two views are the split of a picture.
 
 use super::{Size, View};
+use haythaw_sys::Checked;
 
-/// What a check answers: 0, 1, 5, 3 or 4; yes; and if a sample is wrong, the first one: its view (0 main, 1 auxiliary), its plane (0 Y, 1 U,
-/// 2 V), its row and its column. Where the views' sizes are wrong, neither is true.
-#[repr(C)]
-#[derive(Debug, Clone, Copy, PartialEq, Eq)]
-pub struct Checked {
-    pub number: u32,
-    pub same: bool,
-    pub named: bool,
-    pub view: u8,
-    pub plane: u8,
-    pub row: u16,
-    pub column: u16,
-}
-
-/// Declares functions of the library that check two views, and each in safe Rust.
+/// Functions of the library that check two views, each in safe Rust.
 macro_rules! checking {
     ($($(#[$about:meta])* $name:ident is $symbol:ident;)*) => {
-        // The names and the types are those of crates/haythaw.
-        unsafe extern "C" {
-            $(fn $symbol(
-                width: u16,
-                height: u16,
-                y: *const u8,
-                y_count: usize,
-                u: *const u8,
-                u_count: usize,
-                v: *const u8,
-                v_count: usize,
-                main_width: u16,
-                main_height: u16,
-                main_luma_stride: usize,
-                main_chroma_stride: usize,
-                main_y: *const u8,
-                main_y_count: usize,
-                main_u: *const u8,
-                main_u_count: usize,
-                main_v: *const u8,
-                main_v_count: usize,
-                auxiliary_width: u16,
-                auxiliary_height: u16,
-                auxiliary_luma_stride: usize,
-                auxiliary_chroma_stride: usize,
-                auxiliary_y: *const u8,
-                auxiliary_y_count: usize,
-                auxiliary_u: *const u8,
-                auxiliary_u_count: usize,
-                auxiliary_v: *const u8,
-                auxiliary_v_count: usize,
-            ) -> Checked;)*
-        }
-
         $($(#[$about])*
         #[inline]
         pub fn $name(
@@ -63,7 +16,7 @@ macro_rules! checking {
         ) -> Checked {
             // SAFETY: each pointer and count are of one slice, and all are read alone.
             unsafe {
-                $symbol(
+                haythaw_sys::$symbol(
                     width,
                     height,
                     y.as_ptr(),
