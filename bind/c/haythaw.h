@@ -454,6 +454,7 @@ haythaw_views haythaw_split_v2_32(uint16_t width, uint16_t height, const uint8_t
 
 /* Against what haythaw_split_v1 writes: the auxiliary view is in the layout of AVC444 (V1). A width or height above 65,520 is refused
  * with 5, also where the other is 0. */
+HAYTHAW_MUST_USE
 haythaw_checked haythaw_check_v1(uint16_t width, uint16_t height, const uint8_t *y, size_t y_count,
                                  const uint8_t *u, size_t u_count, const uint8_t *v, size_t v_count,
                                  uint16_t main_width, uint16_t main_height, size_t main_luma_stride, size_t main_chroma_stride,
@@ -465,6 +466,7 @@ haythaw_checked haythaw_check_v1(uint16_t width, uint16_t height, const uint8_t 
                                  const uint8_t *auxiliary_v, size_t auxiliary_v_count);
 
 /* Against what haythaw_split_v2 writes: the auxiliary view is in the layout of AVC444v2 (V2), by the 16 rule. Likewise 5 above 65,520. */
+HAYTHAW_MUST_USE
 haythaw_checked haythaw_check_v2(uint16_t width, uint16_t height, const uint8_t *y, size_t y_count,
                                  const uint8_t *u, size_t u_count, const uint8_t *v, size_t v_count,
                                  uint16_t main_width, uint16_t main_height, size_t main_luma_stride, size_t main_chroma_stride,
@@ -478,6 +480,7 @@ haythaw_checked haythaw_check_v2(uint16_t width, uint16_t height, const uint8_t 
 /* Against what haythaw_split_v2_32 writes, by the 32 rule: both views have to be W wide, the picture's width rounded up to 32, with Y 0,
  * and U and V 128, past the stride. At a width of 48 a view that is 48 wide, as the stride is, has the wrong size. A width above 65,504 is
  * refused with 5, and a height above 65,520. */
+HAYTHAW_MUST_USE
 haythaw_checked haythaw_check_v2_32(uint16_t width, uint16_t height, const uint8_t *y, size_t y_count,
                                     const uint8_t *u, size_t u_count, const uint8_t *v, size_t v_count,
                                     uint16_t main_width, uint16_t main_height, size_t main_luma_stride, size_t main_chroma_stride,

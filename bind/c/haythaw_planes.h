@@ -179,6 +179,21 @@ static inline haythaw_view_planes haythaw_view_written(haythaw_views views, cons
     return view;
 }
 
+/* ---- Whether two views are the split of a picture: haythaw_picture_X is haythaw_X. The map is not looked at ---- */
+
+#define HAYTHAW_PICTURE_CHECK(call) \
+    HAYTHAW_MUST_USE \
+    static inline haythaw_checked haythaw_picture_##call(const haythaw_picture *picture, const haythaw_view_planes *main_view, \
+                                                         const haythaw_view_planes *auxiliary_view) \
+    { \
+        return haythaw_##call(picture->width, picture->height, HAYTHAW_ROOM_OF(picture), HAYTHAW_VIEW_OF(main_view), \
+                              HAYTHAW_VIEW_OF(auxiliary_view)); \
+    }
+
+HAYTHAW_PICTURE_CHECK(check_v1)
+HAYTHAW_PICTURE_CHECK(check_v2)
+HAYTHAW_PICTURE_CHECK(check_v2_32)
+
 /* ---- A view by itself ---- */
 
 /* haythaw_view. */
@@ -200,5 +215,6 @@ static inline haythaw_answer haythaw_view_planes_to_rgba(const haythaw_view_plan
 #undef HAYTHAW_ROOM_OF
 #undef HAYTHAW_PICTURE_APPLY
 #undef HAYTHAW_PICTURE_SPLIT
+#undef HAYTHAW_PICTURE_CHECK
 
 #endif

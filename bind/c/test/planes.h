@@ -12,7 +12,8 @@ static void check(bool holds, const char *call, const char *what);
 
 enum planes_call {
     P_NEW, P_FROM_RGBA, P_FROM_RGBA_RUST, P_TO_RGBA, P_FIRST_UNSOUND, P_MAIN, P_V1, P_V2, P_V2_32, P_V2_EXACT, P_MAIN_STRICT,
-    P_V1_STRICT, P_V2_STRICT, P_V2_32_STRICT, P_V2_EXACT_STRICT, P_SPLIT_V1, P_SPLIT_V2, P_SPLIT_V2_32, P_VIEW, P_VIEW_TO_RGBA, P_CALLS
+    P_V1_STRICT, P_V2_STRICT, P_V2_32_STRICT, P_V2_EXACT_STRICT, P_SPLIT_V1, P_SPLIT_V2, P_SPLIT_V2_32, P_CHECK_V1, P_CHECK_V2,
+    P_CHECK_V2_32, P_VIEW, P_VIEW_TO_RGBA, P_CALLS
 };
 
 /* The numbers that can be altered, and what they are where the call is accepted; counts last. */
@@ -64,6 +65,11 @@ static PlanesAnswer planes_views(haythaw_views w)
     return planes_answer(w.number, w.width, w.height, w.luma_stride, w.chroma_stride);
 }
 
+static PlanesAnswer planes_checked(haythaw_checked c)
+{
+    return planes_answer(c.number, (size_t)c.same * 2 + (size_t)c.named, (size_t)c.view * 3 + c.plane, c.row, c.column);
+}
+
 static PlanesAnswer planes_unsound(haythaw_unsound f)
 {
     return planes_answer(f.number, f.present, f.fault, f.index, 0);
@@ -87,6 +93,8 @@ static uint16_t planes_rects[8] = {3, 1, 17, 6, 0, 0, 4, 2};
         planes_view[2], w[W_VIEW_V]
 #define PLANES_MAIN lent->main_y, w[W_MAIN_Y], lent->main_u, w[W_MAIN_U], lent->main_v, w[W_MAIN_V]
 #define PLANES_AUXILIARY lent->auxiliary_y, w[W_AUXILIARY_Y], lent->auxiliary_u, w[W_AUXILIARY_U], lent->auxiliary_v, w[W_AUXILIARY_V]
+#define PLANES_MAIN_SPLIT PW(W_VIEW_WIDTH), PW(W_VIEW_HEIGHT), 32, 16, PLANES_MAIN
+#define PLANES_AUXILIARY_SPLIT 32, 16, 32, 16, PLANES_AUXILIARY
 #define PLANES_AREA PW(W_LEFT), PW(W_TOP), PW(W_RIGHT), PW(W_BOTTOM), lent->out, w[W_OUT]
 
 static PlanesAnswer planes_plain(enum planes_call call, const size_t *w, PlanesLent *lent)
@@ -110,6 +118,9 @@ static PlanesAnswer planes_plain(enum planes_call call, const size_t *w, PlanesL
     case P_SPLIT_V1: return planes_views(haythaw_split_v1(PLANES_SIZE, PLANES_THREE, PLANES_MAIN, PLANES_AUXILIARY));
     case P_SPLIT_V2: return planes_views(haythaw_split_v2(PLANES_SIZE, PLANES_THREE, PLANES_MAIN, PLANES_AUXILIARY));
     case P_SPLIT_V2_32: return planes_views(haythaw_split_v2_32(PLANES_SIZE, PLANES_THREE, PLANES_MAIN, PLANES_AUXILIARY));
+    case P_CHECK_V1: return planes_checked(haythaw_check_v1(PLANES_SIZE, PLANES_THREE, PLANES_MAIN_SPLIT, PLANES_AUXILIARY_SPLIT));
+    case P_CHECK_V2: return planes_checked(haythaw_check_v2(PLANES_SIZE, PLANES_THREE, PLANES_MAIN_SPLIT, PLANES_AUXILIARY_SPLIT));
+    case P_CHECK_V2_32: return planes_checked(haythaw_check_v2_32(PLANES_SIZE, PLANES_THREE, PLANES_MAIN_SPLIT, PLANES_AUXILIARY_SPLIT));
     case P_VIEW: return planes_number(haythaw_view(PLANES_VIEW));
     case P_VIEW_TO_RGBA: return planes_short(haythaw_view_to_rgba(PLANES_VIEW, lent->out, w[W_OUT]));
     case P_CALLS: break;
@@ -123,6 +134,7 @@ static PlanesAnswer planes_structs(enum planes_call call, const size_t *w, Plane
     const haythaw_rects list = {PLANES_LIST};
     const haythaw_view_planes view = {PLANES_VIEW};
     const haythaw_view_room main_view = {PLANES_MAIN}, auxiliary = {PLANES_AUXILIARY};
+    const haythaw_view_planes main_split = {PLANES_MAIN_SPLIT}, auxiliary_split = {PLANES_AUXILIARY_SPLIT};
     switch (call) {
     case P_NEW: return planes_number(haythaw_picture_new(&picture));
     case P_FROM_RGBA: return planes_number(haythaw_picture_from_rgba(&picture, planes_rgba, w[W_RGBA]));
@@ -142,6 +154,9 @@ static PlanesAnswer planes_structs(enum planes_call call, const size_t *w, Plane
     case P_SPLIT_V1: return planes_views(haythaw_picture_split_v1(&picture, &main_view, &auxiliary));
     case P_SPLIT_V2: return planes_views(haythaw_picture_split_v2(&picture, &main_view, &auxiliary));
     case P_SPLIT_V2_32: return planes_views(haythaw_picture_split_v2_32(&picture, &main_view, &auxiliary));
+    case P_CHECK_V1: return planes_checked(haythaw_picture_check_v1(&picture, &main_split, &auxiliary_split));
+    case P_CHECK_V2: return planes_checked(haythaw_picture_check_v2(&picture, &main_split, &auxiliary_split));
+    case P_CHECK_V2_32: return planes_checked(haythaw_picture_check_v2_32(&picture, &main_split, &auxiliary_split));
     case P_VIEW: return planes_number(haythaw_view_planes_check(&view));
     case P_VIEW_TO_RGBA: return planes_short(haythaw_view_planes_to_rgba(&view, lent->out, w[W_OUT]));
     case P_CALLS: break;
@@ -156,6 +171,20 @@ static void planes_fill(uint8_t *bytes, size_t count, uint32_t seed)
         bytes[k] = (uint8_t)(((uint32_t)k + 1) * (seed * 2 + 1) * 2654435761u >> 23);
 }
 
+/* For a check the views are the picture's split, 32x16, but for one sample of the auxiliary view's U. */
+static void planes_split(enum planes_call call, PlanesLent *lent)
+{
+    const size_t *w = planes_words;
+    if (call < P_CHECK_V1 || call > P_CHECK_V2_32)
+        return;
+    const enum planes_call split = (enum planes_call)(P_SPLIT_V1 + (call - P_CHECK_V1));
+    check(planes_plain(split, w, lent).field[0] == HAYTHAW_DONE, "planes", "the views that are checked");
+    lent->auxiliary_u[5] ^= 1;
+    const PlanesAnswer named = planes_plain(call, w, lent);
+    check(named.field[0] == HAYTHAW_DONE && named.field[1] == 1 && named.field[2] == 4 && named.field[3] == 0 && named.field[4] == 5, "planes",
+          "the sample that is altered");
+}
+
 /* One call both ways; whether it was refused. */
 static bool planes_case(enum planes_call call, const size_t *w)
 {
@@ -163,6 +192,7 @@ static bool planes_case(enum planes_call call, const size_t *w)
     planes_fill((uint8_t *)&before, sizeof before, 9);
     for (size_t k = 0; k < PLANES_ROOM; k++)
         before.map[k] %= 3;
+    planes_split(call, &before);
     plain = structs = before;
     planes_rects[0] = PW(W_RECT_LEFT);
     const PlanesAnswer one = planes_plain(call, w, &plain), other = planes_structs(call, w, &structs);
