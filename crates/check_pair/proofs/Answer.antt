@@ -1,6 +1,5 @@
 -- What an answer says of two views, exactly: yes; a place, which is the first wrong one; or no with no place, which is sizes. Assumes nothing.
 use Prim.Native.Nat.{ℕ}
-use native.Mathlib.Omega.{arith}
 use mathlib.Core.Path.{_≡_, refl, sym, ap, _∙_}
 use mathlib.Core.Bool.{Bool, true, false, true≢false, false≢true}
 use mathlib.Core.Logic.{_↔_, _⊎_}

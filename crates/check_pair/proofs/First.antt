@@ -1,18 +1,17 @@
 -- The verdict on two views, exactly: a place is named where it is wrong and each one before it is right, so that it is the only such place;
 -- sizes where one is not the split's; same where the sizes are the split's and every visible sample is right.
 -- Assumes nothing.
-use Prim.Native.Nat.{ℕ, _/_, _%_, _<_}
+use Prim.Native.Nat.{ℕ, _<_}
 use native.Mathlib.Omega.{arith}
 use mathlib.Core.Path.{_≡_, refl, sym, ap, _∙_, subst}
-use mathlib.Core.Bool.{Bool, true, false, cond, _&&_}
+use mathlib.Core.Bool.{Bool, true, false, _&&_}
 use mathlib.Core.Logic.{_↔_, _⊎_, inl, inr, ⊎-elim, Iff·rfl}
 use lib.Dec.{eqb}
-use borrow.Author.Tests.{eqb-true, eqb-false, eq-eqb, ne-eqb}
+use borrow.Author.Tests.{eqb-true, eqb-false, eq-eqb}
 use Rattle.lent.specs.Samples.{sample}
 use Rattle.lent.proofs.Bools.{split, never-true, both, both-left, both-right, cond-true, cond-false}
 use Rattle.picture.specs.declared.Size.{Size}
 use Rattle.picture.specs.Sizes.{strideOf, rowsOf}
-use Rattle.layout.specs.declared.Layout.{Layout}
 use Rattle.layout.specs.declared.Way.{Way}
 use Rattle.view.specs.declared.View.{View}
 use Rattle.split.specs.Number.{splitLayoutOf, splitWideOf}
@@ -34,9 +33,6 @@ use Rattle.check_pair.proofs.OnePlane.{whereAt, InPlane, plane-tells}
 -- ---- sizes
 
 module _ (t : Way) (z : Size) (w x : View) where
-  abbrev agree : Bool
-  agree = sizesAgree t z w && sizesAgree t z x
-
   pub agree-facts : (sizesAgree t z w && sizesAgree t z x) ≡ true → SizesMatch t z w x
   unfolding sizesAgree
   agree-facts e =

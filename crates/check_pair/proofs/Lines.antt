@@ -8,11 +8,10 @@ use mathlib.Core.Bool.{not}
 use mathlib.Core.Logic.{⊎-elim}
 use mathlib.Core.List.{List}
 use lib.Dec.{eqb}
-use lib.ListN.{length, getD, take, drop}
+use lib.ListN.{length, getD}
 use borrow.Author.Tests.{lt-ltb, le-ltb}
 use Rattle.lent.proofs.Bools.{split}
 use Rattle.lent.proofs.Cells.{row-in}
-use Rattle.lent.proofs.ByPart.{part-long}
 use Rattle.layout.specs.Maps.{PY, PU, PV, shift, halfOf, into}
 use Rattle.layout.specs.declared.Chroma.{Chroma}
 use Rattle.layout.specs.declared.Chroma.the-variants.{CU, CV}
@@ -21,12 +20,11 @@ use Rattle.layout.proofs.Halves.{half-at}
 use Rattle.split_rows.specs.Fits.{WideFits}
 use Rattle.split_views.specs.Views.{seen, pickChroma, auxiliarySample}
 use Rattle.check_rows.specs.declared.Taken.{Taken}
-use Rattle.check_rows.specs.declared.Taken.the-variants.{Evens, Odds, Fourths, Between}
+use Rattle.check_rows.specs.declared.Taken.the-variants.{Odds, Fourths, Between}
 use Rattle.check_rows.specs.Rows.{wrongAt, firstWrong, stepOf, firstOf}
 use Rattle.check_rows.proofs.Firsts.{first-same}
 use Rattle.check_rows.proofs.Rows.{partOf, right-none, right-all, wrong-part, wrong-rest}
 use Rattle.check_pair.specs.declared.Name.{Name}
-use Rattle.check_pair.specs.declared.Name.the-variants.{YPlane, UPlane, VPlane}
 use Rattle.check_pair.specs.Rows.{fullOf, halvesOf, LineFits}
 
 -- two sources that agree on every column have the same first wrong one

@@ -12,7 +12,6 @@ use Rattle.lent.specs.Sizes.{halfUp}
 use Rattle.lent.proofs.Bools.{never-true, both, both-left, both-right, cond-true, cond-false}
 use Rattle.picture.specs.declared.Size.{Size}
 use Rattle.picture.specs.Sizes.{strideOf, rowsOf}
-use Rattle.layout.specs.Maps.{viewWideOf}
 use Rattle.layout.specs.declared.Layout.{Layout}
 use Rattle.layout.specs.declared.Way.{Way}
 use Rattle.view.specs.declared.Plane.{Plane}
@@ -30,7 +29,7 @@ use Rattle.check_pair.specs.declared.Verdict.{Verdict}
 use Rattle.check_pair.specs.declared.Verdict.the-variants.{Same, Sizes, Wrong}
 use Rattle.check_pair.specs.Number.{sizesAgree}
 use Rattle.check_pair.specs.Verdict.{planeOf, firstIn, planeVerdictOf, orElse, viewVerdictOf, pairVerdictOf}
-use Rattle.check_pair.specs.Rows.{fullOf, PlaneWhole, ViewWhole}
+use Rattle.check_pair.specs.Rows.{PlaneWhole, ViewWhole}
 use Rattle.check_pair.proofs.Verdict.{the-type}
 
 -- ---- one plane

@@ -1,18 +1,17 @@
 -- A few checks by hand, each computed over the definitions. Assumes nothing.
 use Prim.Native.Nat.{ℕ}
 use mathlib.Core.Path.{_≡_, refl}
-use mathlib.Core.List.{[], _∷_}
+use mathlib.Core.List.{[]}
 use Rattle.lent.specs.Counts.{firstWhere}
 use Rattle.picture.specs.declared.Size.{Size}
 use Rattle.picture.specs.Sizes.{planesShort}
-use Rattle.layout.specs.declared.Way.{Way}
 use Rattle.layout.specs.declared.Way.the-variants.{AsV1, AsV2}
 use Rattle.layout.specs.declared.WidthRule.the-variants.{To16, To32}
 use Rattle.view.specs.declared.View.{View}
 use Rattle.view.specs.View.{narrow, planeShort}
 use Rattle.split.specs.Number.{tooLarge}
 use Rattle.split_views.specs.Views.{Planes, planes}
-use Rattle.check_pair.specs.declared.Verdict.the-variants.{Same, Sizes, Wrong}
+use Rattle.check_pair.specs.declared.Verdict.the-variants.{Same, Sizes}
 use Rattle.check_pair.specs.Number.{checkNumberOf, sizesAgree}
 use Rattle.check_pair.specs.Verdict.{firstIn, planeVerdictOf, viewVerdictOf, pairVerdictOf}
 use Rattle.check_pair.specs.Checked.{answeredOf, refusedWith, checkedOf}

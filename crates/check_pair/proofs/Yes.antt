@@ -24,7 +24,6 @@ use Rattle.split.specs.Split.{Planes, planes, lengthsOf, splitLayoutOf, splitWi
 use Rattle.split.proofs.Calls.{wide-enough, accepted}
 use Rattle.split.proofs.Exactly.{small-exactly}
 use Rattle.split_views.specs.Fits.{Room}
-use Rattle.check_pair.specs.declared.Checked.{Checked}
 use Rattle.check_pair.specs.declared.Name.{Name}
 use Rattle.check_pair.specs.declared.Name.the-variants.{YPlane, UPlane, VPlane}
 use Rattle.check_pair.specs.declared.Sent.{Sent}

@@ -1,8 +1,10 @@
 -- The samples of two views as places, and their order (R89), for the laws: `Where` is a view, a plane, a row and a column, as an answer has them.
 --
+--   sentOf v, nameOf i  the view and the plane with these numbers
 --   Visible t z l       l is a place in the views of a split: below a plane's height and width
 --   Before k l          k comes before l: "main before auxiliary, Y then U then V, by row and then column"
---   shownAt w m x a l   the sample there of the views w and x, with the planes m and a
+--   shownIn w m l       the sample there of a view w with the planes m
+--   shownAt w m x a l   that of the view that it is in, w or x, with the planes m and a
 --   splitAt t z p l     the sample there of the split of a picture of the size z with the planes p
 --   RightAt, WrongAt    the two are equal; they are not
 --   SizesMatch t z w x  both views have the width and the height of a split's
@@ -30,7 +32,6 @@ use Rattle.check_pair.specs.declared.Sent.the-variants.{Main, Auxiliary}
 use Rattle.check_pair.specs.declared.Where.{Where}
 use Rattle.check_pair.specs.Verdict.{partOf, planeOf, bytesOf, sideOf, heldOf}
 
--- a view and a plane by their numbers
 abbrev pub sentOf : ℕ → Sent
 sentOf v = cond (eqb v 0) Main Auxiliary
 

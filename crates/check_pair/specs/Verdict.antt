@@ -11,7 +11,8 @@
 --   whereOf v i w k        the place of sample k of a plane w wide, the plane i of the view v
 --   planeVerdictOf v i s q xs     the verdict on one plane: same, or its first wrong sample
 --   orElse d e             the verdict d, or e where d is same
---   viewVerdictOf s t z p w m     the verdict on one view: Y, then U, then V
+--   namedVerdictOf s n t stride p w m    the verdict on the plane n of the view w with the planes m
+--   viewVerdictOf s t stride p w m       that on the view: Y, then U, then V
 --   pairVerdictOf t z p w m x a   the verdict on both: sizes first, then main, then auxiliary
 use Prim.Native.Nat.{ℕ, _*_, _/_, _%_}
 use mathlib.Core.Bool.{Bool, cond, not, _&&_}

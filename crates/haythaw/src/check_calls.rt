@@ -11,8 +11,8 @@ use layout::WidthRule;
 use picture::Size;
 use view::View;
 
-// Whether the two views are the split of the picture, the auxiliary one in layout V1: yes, a place, or no with no place, which is sizes;
-// or 1, 5, 3 or 4. Nothing is written.
+// Whether the two views are the split of the picture, the auxiliary one in layout V1: yes; a place, the first that is wrong;
+// or no place, where the sizes are not the split's. Or 1, 5, 3 or 4. Nothing is written.
 #[no_mangle]
 pub extern "C" fn haythaw_check_v1(
     width: u16,
@@ -69,8 +69,8 @@ pub extern "C" fn haythaw_check_v1(
     )
 }
 
-// Whether the two views are the split of the picture, the auxiliary one in layout V2 by the 16 rule: yes, a place, or no with no place, which is sizes;
-// or 1, 5, 3 or 4. Nothing is written.
+// Whether the two views are the split of the picture, the auxiliary one in layout V2 by the 16 rule: yes; a place, the first that is wrong;
+// or no place, where the sizes are not the split's. Or 1, 5, 3 or 4. Nothing is written.
 #[no_mangle]
 pub extern "C" fn haythaw_check_v2(
     width: u16,
@@ -127,8 +127,8 @@ pub extern "C" fn haythaw_check_v2(
     )
 }
 
-// Whether the two views are the split of the picture, the auxiliary one in layout V2 by the 32 rule: yes, a place, or no with no place, which is sizes;
-// or 1, 5, 3 or 4. Nothing is written.
+// Whether the two views are the split of the picture, the auxiliary one in layout V2 by the 32 rule: yes; a place, the first that is wrong;
+// or no place, where the sizes are not the split's. Or 1, 5, 3 or 4. Nothing is written.
 #[no_mangle]
 pub extern "C" fn haythaw_check_v2_32(
     width: u16,

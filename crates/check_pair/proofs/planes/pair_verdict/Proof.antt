@@ -3,13 +3,11 @@
 -- Assumes nothing.
 use borrow.Author.Needs.{needs}
 use borrow.Author.Tests.{not-true, not-false}
-use Prim.Native.Nat.{ℕ}
-use mathlib.Core.Path.{_≡_, sym, ap, _∙_}
+use mathlib.Core.Path.{_≡_, sym, _∙_}
 use mathlib.Core.Bool.{true}
 use lib.ListN.{length}
 use Rattle.lent.proofs.Bools.{both}
 use Rattle.picture.specs.Sizes.{strideOf, rowsOf}
-use Rattle.layout.specs.declared.Layout.{Layout}
 use Rattle.view.specs.declared.View.{View}
 use Rattle.split.specs.Number.{splitLayoutOf, splitWideOf}
 use Rattle.split.specs.Split.{lengthsOf}

@@ -1,6 +1,5 @@
 -- `check_pair::planes::plane_first` meets its contract. The invariant: no sample of the rows before `line` is wrong.
 -- Assumes nothing.
-use borrow.Author.Needs.{needs}
 use Prim.Native.Nat.{ℕ, _+_, _-_, _*_, _<_, _≤_}
 use native.Mathlib.Omega.{arith}
 use mathlib.Core.Path.{ap, _∙_}
