@@ -266,7 +266,8 @@ static void differs(const Case *c, const char *what, haythaw_checked got, haytha
 static haythaw_checked call(Case *c)
 {
     static Check *const calls[WAYS] = {haythaw_check_v1, haythaw_check_v2, haythaw_check_v2_32};
-    if (how == A_BYTE_WRITTEN && c->views[1].of[V].count) ++*c->views[1].of[V].at;
+    const Lent last = c->views[1].of[V];
+    if (how == A_BYTE_WRITTEN && last.count && c->views[1].chroma > c->wide / 2) ++last.at[last.count - 1]; /* past the width: no answer shows it */
     return how == LIBRARY ? calls[c->way](PICTURE(c), VIEW(c->views[0]), VIEW(c->views[1])) : checked_here(c);
 }
 
