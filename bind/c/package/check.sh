@@ -27,7 +27,7 @@ one() { # HOW FOLDER LANGUAGE NAME SOURCE WORDS-OF-THE-COMPILER...
 
 each() { # HOW FOLDER LIBRARIES
     libraries=$3
-    for source in test/check.c examples/*.c; do
+    for source in test/test.c examples/*.c; do
         name=${source##*/} name=${name%.c}
         # shellcheck disable=SC2086 # words of the caller, to be split
         one "$1" "$2" C "$name" "$source" $CC -std=c99 -Iinclude $CFLAGS

@@ -10,7 +10,7 @@ static int wrong;
 static void check(bool holds, const char *call, const char *what)
 {
     if (!holds) {
-        fprintf(stderr, "check.c: a wrong answer: %s, %s\n", call, what);
+        fprintf(stderr, "test.c: a wrong answer: %s, %s\n", call, what);
         wrong = 1;
     }
 }
