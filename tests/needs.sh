@@ -199,9 +199,12 @@ gate() {
     stand_in "$tree/tests/rust.sh" 'echo ran rust.sh'
     stand_in "$tree/oracle/compare.sh" 'echo ran compare.sh'
 }
-# What .ci/run runs before the library is made, and over it: the boundary, and the comparison with its self-test.
+# What .ci/run runs before the library is made, and over it: the boundary, and the comparison with its self-test; where this processor is
+# one of x86-64-v3, the comparison over that library too.
+v3=0
+if [[ $(uname -m) == x86_64 ]] && grep -qw avx2 /proc/cpuinfo; then v3=1; fi
 before=$(grep -cE '^(tests|docs)/' "$root/.ci/run")
-over=$(($(grep -E '^ +for one in tests/' "$root/.ci/run" | grep -oE '\b(tests|docs)/' | wc -l) + 2))
+over=$(($(grep -E '^ +for one in tests/' "$root/.ci/run" | grep -oE '\b(tests|docs)/' | wc -l) + 2 + v3))
 gate
 runs .ci/run && check 'the gate' says 0 '^3 passed, 0 failed$'
 check 'it left out nothing' test "$(lines '^ran ') $(lines '^not ')" = "$((before + over)) 0"
