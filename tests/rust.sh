@@ -13,8 +13,8 @@ example() { awk '/^```rust$/ { inside = 1; next } inside && /^```$/ { exit } ins
 "$root/oracle/library.sh"
 export HAYTHAW_LIB_DIR=$root/oracle/build CARGO_TARGET_DIR=$root/oracle/build/cargo
 cd "$root/bind/rust"
-cargo test --offline --quiet --workspace
-RUSTDOCFLAGS='-D warnings' cargo doc --offline --no-deps --quiet --workspace
+cargo test --offline --quiet --workspace --all-features
+RUSTDOCFLAGS='-D warnings' cargo doc --offline --no-deps --quiet --workspace --all-features
 
 # README.md may show the example of bind/rust, which was just run; then it shows that one.
 if grep -q '^```rust$' "$root/README.md"; then

@@ -2,7 +2,7 @@
 
 /// Writes conversions between IronRDP's types and this crate's, where it stands.
 ///
-/// This crate depends on none of IronRDP's. The types are those that the caller names, of whatever version of theirs it has: any of
+/// It is there with the feature `ironrdp`, and this crate depends on none of IronRDP's all the same. The types are those that the caller names, of whatever version of theirs it has: any of
 /// `ironrdp_pdu`'s `ExclusiveRectangle`, and `ironrdp_egfx`'s `Yuv420Frame` and `DecodedFrame`, in this order. There will be two
 /// traits for them, `IntoHaythaw` and `IntoIronrdp`, each for the crate that they stand in alone.
 ///

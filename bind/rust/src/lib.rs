@@ -9,6 +9,7 @@ pub mod avc444_payload;
 pub mod check;
 pub mod decode;
 pub mod geometry;
+#[cfg(feature = "ironrdp")]
 mod ironrdp;
 #[allow(unsafe_code)]
 mod library;
