@@ -127,12 +127,17 @@ module _ (row : List ℕ) (s s′ : ℕ → ℕ) (most : ℕ) (less : most ≤ l
   pub found-inside : k < most → k ≡ firstWrong row s
   found-inside low = sym (zero-add k) ∙ wrong-part row s s′ 0 most (omega arith) less same (right-none row s) is (omega arith)
 
+  -- none of the first columns is wrong
+  first-right : most ≤ k → Right row s most
+  first-right all = right-all row s s′ 0 most (omega arith) less same (right-none row s) is (omega arith)
+
+  pub found-none : most ≤ k → length row ≡ most → length row ≡ firstWrong row s
+  found-none all end = end ∙ wrong-none row s most (sym end) (first-right all)
+
   pub found-past : (fill : ℕ) {m : ℕ} → most ≤ k → ((j : ℕ) → most ≤ j → fill ≡ s j) → m ≡ firstWrong (partOf row most (length row)) (λ c. fill)
       → most + m ≡ firstWrong row s
   found-past fill all past rest =
-      wrong-rest row s (λ c. fill) most (length row) less (omega arith) (λ j h. past (most + j) (omega arith))
-      (right-all row s s′ 0 most (omega arith) less same (right-none row s) is (omega arith))
-      rest refl
+      wrong-rest row s (λ c. fill) most (length row) less (omega arith) (λ j h. past (most + j) (omega arith)) (first-right all) rest refl
 
 -- ---- a part of a row that is to be its source, and of one that takes each step-th byte of it
 

@@ -3,7 +3,8 @@
 // The samples are the picture's own: all of a row, every second one or every fourth one, and one byte past the stride (split_rows,
 // specs/Seen.antt). Nothing is written. A row goes by parts of 64 bytes, and what is left by parts of 8: of each it is asked whether some
 // byte is wrong, in registers, as the writers of split_rows read them; the part that has one, and what is left then, is looked at byte
-// by byte. All of a row has loops of its own: by those of the others a picture of 48x48 took a third longer.
+// by byte. All of a row has loops of its own: by those of the others a picture of 48x48 took a third longer. Past the stride there are 4,
+// 8 or 16 columns, or none, which is asked first: parts of 8 are enough there.
 pub mod parts; // is some byte of a part wrong?
 
 ghost use mathlib.Core.Path.{_≡_};
@@ -177,8 +178,8 @@ fn copied_first(row: &[u8], src: &[u8]) -> usize
     at + scan(&row[at..n], &src[at..n], 1, 0)
 }
 
-// The first column that is wrong, where every one is to be `fill`.
-fn filled_first(row: &[u8], fill: u8) -> usize
+// The first column that is wrong, byte by byte, where every one is to be `fill`.
+fn filled_scan(row: &[u8], fill: u8) -> usize
     ensures { λ r. ⌜ r ≡ firstWrong (now (row .entry)) (λ c. fill) ⌝ }
 {
     let n = row.len();
@@ -192,6 +193,35 @@ fn filled_first(row: &[u8], fill: u8) -> usize
     n
 }
 
+// How many columns are right for sure, by parts of 8, where every one is to be `fill`.
+fn filled_right_8(row: &[u8], fill: u8) -> usize
+    ensures { λ r. ⌜ (r ≤ length (now (row .entry))) × Right (now (row .entry)) (λ c. fill) r ⌝ }
+{
+    let src = [fill; 8];
+    let n = row.len();
+    let mut at = 0;
+    while 8 <= n - at {
+        let end = at + 8;
+        if parts::apart(&row[at..end], &src, 8) != 0 {
+            return at;
+        }
+        at = end;
+    }
+    at
+}
+
+// The first column that is wrong, where every one is to be `fill`.
+fn filled_first(row: &[u8], fill: u8) -> usize
+    ensures { λ r. ⌜ r ≡ firstWrong (now (row .entry)) (λ c. fill) ⌝ }
+{
+    let n = row.len();
+    let at = filled_right_8(row, fill);
+    if at == n {
+        return n;
+    }
+    at + filled_scan(&row[at..n], fill)
+}
+
 // The first column that is wrong, where the row is to be row `line` of the plane as if it went on past the stride, and held `fill` there.
 pub fn copied_row(row: &[u8], plane: &[u8], stride: usize, line: usize, fill: u8) -> usize
     requires { ⌜ WideFits (length (now row)) (length (now plane)) 1 stride line ⌝ }
@@ -202,6 +232,9 @@ pub fn copied_row(row: &[u8], plane: &[u8], stride: usize, line: usize, fill: u8
     let found = copied_first(&row[0..stride], &plane[start..start + stride]);
     if found < stride {
         return found;
+    }
+    if n == stride {
+        return n;
     }
     stride + filled_first(&row[stride..n], fill)
 }
@@ -225,6 +258,9 @@ pub fn taken_row(
     let found = taken_first(taken, &row[0..most], &plane[start..start + stride]);
     if found < most {
         return found;
+    }
+    if n == most {
+        return n;
     }
     most + filled_first(&row[most..n], fill)
 }

@@ -1,14 +1,20 @@
 -- `check_rows::copied_row` meets its contract: the samples of the row, and `fill` past them.
 -- Assumes nothing.
 use borrow.Author.Needs.{needs}
+use Prim.Native.Nat.{ℕ, _<_}
 use native.Mathlib.Omega.{arith}
-use mathlib.Core.Path.{_∙_}
+use mathlib.Core.Path.{_≡_, _∙_}
+use mathlib.Core.List.{List}
 use lib.ListN.{getD}
 use Rattle.split_rows.specs.Seen.{seen}
 use Rattle.split_rows.proofs.Rows.{rowOf, row-sample, seen-inside, seen-past}
-use Rattle.check_rows.proofs.Rows.{wrong-in, found-inside, found-past}
+use Rattle.check_rows.proofs.Rows.{wrong-in, found-inside, found-none, found-past}
 use Rattle.check_rows.proofs.copied_row.Statement.{statement}
 use Rattle.check_rows.proofs.copied_row.Tie as tie
+
+-- below the stride, what is seen is the row's own sample
+inside : (fill : ℕ) (plane : List ℕ) (stride line j : ℕ) → j < stride → getD (rowOf plane stride line) j 0 ≡ seen fill plane stride line j
+inside fill plane stride line j h = row-sample plane stride line j h ∙ seen-inside fill plane stride line j h
 
 mul-start : tie.Need-mul-start
 mul-start c = search needs
@@ -42,7 +48,14 @@ returns c =
     let s = c .before .before .before .before .before .before in
     let a = s .args in
     found-inside (a .row .now) (λ k. seen (a .fill) (a .plane .now) (a .stride) (a .line) k) (λ k. getD (rowOf (a .plane .now) (a .stride) (a .line)) k 0) (a .stride) (omega (arith, s .pre .room))
-    (λ j h. row-sample (a .plane .now) (a .stride) (a .line) j h ∙ seen-inside (a .fill) (a .plane .now) (a .stride) (a .line) j h) (c .before .copied-first .ensures) (c .if1 .taken)
+    (inside (a .fill) (a .plane .now) (a .stride) (a .line)) (c .before .copied-first .ensures) (c .if1 .taken)
+
+returns-2 : tie.Need-returns-2
+returns-2 c =
+    let s = c .before .before .before .before .before .before .before in
+    let a = s .args in
+    found-none (a .row .now) (λ k. seen (a .fill) (a .plane .now) (a .stride) (a .line) k) (λ k. getD (rowOf (a .plane .now) (a .stride) (a .line)) k 0) (a .stride) (omega (arith, s .pre .room))
+    (inside (a .fill) (a .plane .now) (a .stride) (a .line)) (c .before .before .copied-first .ensures) (c .before .if1 .left) (c .if2 .taken)
 
 sub-filled-first : tie.Need-sub-filled-first
 sub-filled-first c = search needs
@@ -58,16 +71,16 @@ filled-first-requires c κs = search needs
 
 add-result : tie.Need-add-result
 add-result c =
-    let s = c .before .before .before .before .before .before .before .before in
+    let s = c .before .before .before .before .before .before .before .before .before in
     let a = s .args in
     omega (arith, wrong-in (a .row .now) _ (a .stride) (omega (arith, s .pre .room)) (c .filled-first .ensures))
 
-returns-2 : tie.Need-returns-2
-returns-2 c =
-    let s = c .before .before .before .before .before .before .before .before in
+returns-3 : tie.Need-returns-3
+returns-3 c =
+    let s = c .before .before .before .before .before .before .before .before .before in
     let a = s .args in
     found-past (a .row .now) (λ k. seen (a .fill) (a .plane .now) (a .stride) (a .line) k) (λ k. getD (rowOf (a .plane .now) (a .stride) (a .line)) k 0) (a .stride) (omega (arith, s .pre .room))
-    (λ j h. row-sample (a .plane .now) (a .stride) (a .line) j h ∙ seen-inside (a .fill) (a .plane .now) (a .stride) (a .line) j h) (c .before .before .before .copied-first .ensures) (a .fill) (c .before .before .if1 .left)
+    (inside (a .fill) (a .plane .now) (a .stride) (a .line)) (c .before .before .before .before .copied-first .ensures) (a .fill) (c .before .before .before .if1 .left)
     (λ j h. seen-past (a .fill) (a .plane .now) (a .stride) (a .line) j h) (c .filled-first .ensures)
 
 pub copied-row-spec : {M : Type 1} → statement M
@@ -84,9 +97,10 @@ copied-row-spec =
     part-copied-first-end-2
     copied-first-requires
     returns
+    returns-2
     sub-filled-first
     part-filled-first-start
     part-filled-first-end
     filled-first-requires
     add-result
-    returns-2)
+    returns-3)

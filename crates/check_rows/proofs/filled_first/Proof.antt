@@ -1,61 +1,55 @@
--- `check_rows::filled_first` meets its contract. The invariant: the columns that were passed are `fill`.
+-- `check_rows::filled_first` meets its contract: the parts of 8 that are right, and what is left byte by byte.
 -- Assumes nothing.
 use borrow.Author.Needs.{needs}
-use Prim.Native.Nat.{_-_, _≤_}
 use native.Mathlib.Omega.{arith}
-use mathlib.Core.Path.{_≡_, refl}
+use mathlib.Core.Path.{refl}
 use lib.ListN.{length}
-use Rattle.check_rows.specs.Rows.{Right}
-use Rattle.check_rows.proofs.Rows.{right-none, right-more, wrong-at, wrong-none}
+use Rattle.check_rows.proofs.Rows.{wrong-none, wrong-in, wrong-rest}
 use Rattle.check_rows.proofs.filled_first.Statement.{statement}
 use Rattle.check_rows.proofs.filled_first.Tie as tie
 
-abbrev Inv-loop : tie.InvT-loop
-Inv-loop row fill n i₀ i = (n ≡ length row) × (i ≤ n) × Right row (λ c. fill) i
+filled-right-8-requires : tie.Need-filled-right-8-requires
+filled-right-8-requires c κs = search needs
 
-abbrev μ-loop : tie.MeasureT-loop
-μ-loop row fill n i₀ i = n - i
-
-loop-holds : tie.Need-loop-holds Inv-loop μ-loop
-loop-holds c = let a = c .args in (refl, omega arith, right-none (a .row .now) (λ k. a .fill))
-
-shared-slice-read-if1 : tie.Need-shared-slice-read-if1 Inv-loop μ-loop
-shared-slice-read-if1 c = search needs
-
-returns : tie.Need-returns Inv-loop μ-loop
+returns : tie.Need-returns
 returns c =
-    let l = c .before .before .before in
-    let a = l .before .args in
-    wrong-at (a .row .now) (λ k. a .fill) (l .loop .i) (omega arith) (l .loop .inv .2) (c .if1 .taken)
+    let a = c .before .before .before .args in
+    wrong-none (a .row .now) (λ k. a .fill) (length (a .row .now)) refl (λ k h. c .before .filled-right-8 .ensures .1 k (omega arith))
 
-add-i : tie.Need-add-i Inv-loop μ-loop
-add-i c = search needs
+sub-filled-scan : tie.Need-sub-filled-scan
+sub-filled-scan c = search needs
 
-loop-less : tie.Need-loop-less Inv-loop μ-loop
-loop-less c = search needs
+part-filled-scan-start : tie.Need-part-filled-scan-start
+part-filled-scan-start c = search needs
 
-loop-again : tie.Need-loop-again Inv-loop μ-loop
-loop-again c =
-    let l = c .before .before .before in
-    let a = l .before .args in
-    (refl, omega arith, right-more (a .row .now) (λ k. a .fill) (l .loop .i) (l .loop .inv .2) (c .if1 .left))
+part-filled-scan-end : tie.Need-part-filled-scan-end
+part-filled-scan-end c = search needs
 
-returns-2 : tie.Need-returns-2 Inv-loop μ-loop
+filled-scan-requires : tie.Need-filled-scan-requires
+filled-scan-requires c κs = search needs
+
+add-result : tie.Need-add-result
+add-result c =
+    let r = c .before .before .before in
+    let a = r .before .before .args in
+    omega (arith, wrong-in (a .row .now) _ (r .filled-right-8 .result) (r .filled-right-8 .ensures .0) (c .filled-scan .ensures))
+
+returns-2 : tie.Need-returns-2
 returns-2 c =
-    let l = c .before in
-    let a = l .before .args in
-    wrong-none (a .row .now) (λ k. a .fill) (length (a .row .now)) refl (λ k h. l .loop .inv .2 k (omega arith))
+    let r = c .before .before .before in
+    let a = r .before .before .args in
+    wrong-rest (a .row .now) (λ k. a .fill) (λ k. a .fill) (r .filled-right-8 .result) (length (a .row .now)) (r .filled-right-8 .ensures .0) (omega arith) (λ j h. refl)
+    (r .filled-right-8 .ensures .1) (c .filled-scan .ensures) refl
 
 pub filled-first-spec : {M : Type 1} → statement M
 filled-first-spec =
     tie.close
     (tie.spec
-    Inv-loop
-    μ-loop
-    loop-holds
-    shared-slice-read-if1
+    filled-right-8-requires
     returns
-    add-i
-    loop-less
-    loop-again
+    sub-filled-scan
+    part-filled-scan-start
+    part-filled-scan-end
+    filled-scan-requires
+    add-result
     returns-2)
