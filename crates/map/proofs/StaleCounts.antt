@@ -1,4 +1,4 @@
--- Counts over the map: a part of a row is counted, a short row is seen to be complete, two pixels of a row have one block between them, and so have
+-- Counts over the map: a part of a row is counted, a short row is seen to be of one value, two pixels of a row have one block between them, and so have
 -- two rows.
 -- Assumes nothing.
 use Prim.Native.Nat.{ℕ, zero, suc, _+_, _*_, _-_, _/_, _%_, _≤_, _<_}
@@ -44,30 +44,48 @@ count-part t line a e n m ordered fits before here =
     ∙ total-more a (e - a) (λ j. one (t (getD line j 0)))
     ∙ ap (λ (k : ℕ). countOf k (λ j. t (getD line j 0))) whole
 
--- four bytes as one number, the first one lowest: 33686018 is four of 2
+-- four bytes as one number, the first one lowest: 16843009 is four of 1
 abbrev pub FourAt : List ℕ → ℕ → ℕ → Type 0
 FourAt line i w =
     (w % 256 ≡ getD line i 0) × (w / 256 % 256 ≡ getD line (i + 1) 0) × (w / 65536 % 256 ≡ getD line (i + 2) 0) × (w / 16777216 ≡ getD line (i + 3) 0)
 
-four-complete : (line : List ℕ) (i k w : ℕ) → i ≤ k → k < i + 4 → FourAt line i w → w ≡ 33686018 → getD line k 0 ≡ 2
-four-complete line i k w ge lt four is =
-    let at : (j v : ℕ) → k ≡ j → v ≡ getD line j 0 → v ≡ 2 → getD line k 0 ≡ 2 = λ j v e f g. ap (λ (m : ℕ). getD line m 0) e ∙ sym f ∙ g in
+-- each byte of x times it is x
+four-of : (x : ℕ) → x < 256
+    → (16843009 * x % 256 ≡ x) × (16843009 * x / 256 % 256 ≡ x) × (16843009 * x / 65536 % 256 ≡ x) × (16843009 * x / 16777216 ≡ x)
+four-of x byte =
+    let second : 16843009 * x / 256 ≡ 65793 * x = omega arith in
+    let third : 16843009 * x / 65536 ≡ 257 * x = omega arith in
+    (omega arith, ap (λ (m : ℕ). m % 256) second ∙ omega arith, ap (λ (m : ℕ). m % 256) third ∙ omega arith, omega arith)
+
+four-alike : (line : List ℕ) (i k w x : ℕ) → i ≤ k → k < i + 4 → FourAt line i w → x < 256 → w ≡ 16843009 * x → getD line k 0 ≡ x
+four-alike line i k w x ge lt four byte is =
+    let at : (j v : ℕ) → k ≡ j → v ≡ getD line j 0 → v ≡ x → getD line k 0 ≡ x = λ j v e f g. ap (λ (m : ℕ). getD line m 0) e ∙ sym f ∙ g in
+    let each = four-of x byte in
     ⊎-elim
-    (λ lt′. ⊎-elim (λ lt″. at i _ (omega arith) (four .0) (omega arith)) (λ ge″. at (i + 1) _ (omega arith) (four .1) (omega arith)) (split k (i + 1)))
-    (λ ge′. ⊎-elim (λ lt″. at (i + 2) _ (omega arith) (four .2) (omega arith)) (λ ge″. at (i + 3) _ (omega arith) (four .3) (omega arith)) (split k (i + 3)))
+    (λ lt′. ⊎-elim
+    (λ lt″. at i _ (omega arith) (four .0) (ap (λ (m : ℕ). m % 256) is ∙ each .0))
+    (λ ge″. at (i + 1) _ (omega arith) (four .1) (ap (λ (m : ℕ). m / 256 % 256) is ∙ each .1))
+    (split k (i + 1)))
+    (λ ge′. ⊎-elim
+    (λ lt″. at (i + 2) _ (omega arith) (four .2) (ap (λ (m : ℕ). m / 65536 % 256) is ∙ each .2))
+    (λ ge″. at (i + 3) _ (omega arith) (four .3) (ap (λ (m : ℕ). m / 16777216) is ∙ each .3))
+    (split k (i + 3)))
     (split k (i + 2))
 
--- the first four of at most 8 bytes are 2, and the last four: no byte is another
-pub ends-complete : (line : List ℕ) (v w : ℕ) → 4 ≤ length line → length line ≤ 8
-    → FourAt line 0 v → v ≡ 33686018 → FourAt line (length line - 4) w → w ≡ 33686018
-    → countOf (length line) (λ k. stale (getD line k 0)) ≡ 0
-ends-complete line v w least most first first-is last last-is =
-    total-zero (length line) _
-    (λ k lt. ap (λ (b : ℕ). one (stale b))
-    (⊎-elim
-    (λ low. four-complete line 0 k v (omega arith) (omega arith) first first-is)
-    (λ high. four-complete line (length line - 4) k w (omega arith) (omega arith) last last-is)
-    (split k 4)))
+-- the first four of at most 8 bytes are x, and the last four: no byte is another
+pub ends-alike : (line : List ℕ) (v w x : ℕ) → 4 ≤ length line → length line ≤ 8 → x < 256
+    → FourAt line 0 v → v ≡ 16843009 * x → FourAt line (length line - 4) w → w ≡ 16843009 * x
+    → (k : ℕ) → k < length line → getD line k 0 ≡ x
+ends-alike line v w x least most byte first first-is last last-is k lt =
+    ⊎-elim
+    (λ low. four-alike line 0 k v x (omega arith) (omega arith) first byte first-is)
+    (λ high. four-alike line (length line - 4) k w x (omega arith) (omega arith) last byte last-is)
+    (split k 4)
+
+-- a row whose bytes are all x
+pub alike-count : (t : ℕ → Bool) (line : List ℕ) (x : ℕ) → ((k : ℕ) → k < length line → getD line k 0 ≡ x)
+    → countOf (length line) (λ k. t (getD line k 0)) ≡ length line * one (t x)
+alike-count t line x alike = total-same (length line) (λ k lt. ap (λ (b : ℕ). one (t b)) (alike k lt)) ∙ total-const (length line) (one (t x))
 
 -- ---- the pixels of a row by their blocks: f is what a block gives
 

@@ -251,6 +251,10 @@ fn turn_short(dst: &mut [u8])
         turn_by_4(dst);
         return;
     }
+    if n == 8 {
+        turn_8(dst);
+        return;
+    }
     turn_by_8(dst);
 }
 
@@ -259,10 +263,6 @@ fn turn(dst: &mut [u8])
     ensures { λ _. ⌜ now (dst .exit) ≡ paint every (λ k. turnedOf (getD (now (dst .entry)) k 0)) (now (dst .entry)) ⌝ }
 {
     let n = dst.len();
-    if n == 8 {
-        turn_8(dst);
-        return;
-    }
     if n < 16 {
         turn_short(dst);
         return;

@@ -9,7 +9,7 @@ use denote.Ref.{now}
 use Rattle.lent.specs.Counts.{countOf}
 use Rattle.lent.proofs.Counts.{total-none, count-low}
 use Rattle.map.specs.Map.{stale}
-use Rattle.map.proofs.StaleCounts.{count-part}
+use Rattle.map.proofs.StaleCounts.{count-part, alike-count}
 use Rattle.map.proofs.counts.blocks_stale.Statement.{statement}
 use Rattle.map.proofs.counts.blocks_stale.Tie as tie
 
@@ -28,12 +28,21 @@ counted c =
     count-part stale (now (l .before .before .before .before .args .line)) (l .loop .k) (l .loop .k + m .least .result) (l .loop .n) (c .few-stale2 .result) (omega arith)
     (omega arith) (l .loop .inv .1) (c .few-stale2 .ensures)
 
-all-complete-requires : tie.Need-all-complete-requires Inv-loop μ-loop
-all-complete-requires c κs = search needs
+all-are-requires : tie.Need-all-are-requires Inv-loop μ-loop
+all-are-requires c κs = search needs
 
 -- a complete line has none
 returns : tie.Need-returns Inv-loop μ-loop
-returns c = sym (c .before .all-complete .ensures (c .if3 .taken))
+returns c = let line = now (c .before .before .before .before .before .args .line) in sym (alike-count stale line 2 (c .before .all-are .ensures (c .if3 .taken)) ∙ omega arith)
+
+all-are-requires-2 : tie.Need-all-are-requires-2 Inv-loop μ-loop
+all-are-requires-2 c κs = search needs
+
+-- and one that waits has nothing else
+returns-2 : tie.Need-returns-2 Inv-loop μ-loop
+returns-2 c =
+    let line = now (c .before .before .before .before .before .before .before .args .line) in
+    sym (alike-count stale line 1 (c .before .all-are2 .ensures (c .if4 .taken)) ∙ omega arith)
 
 few-stale-requires : tie.Need-few-stale-requires Inv-loop μ-loop
 few-stale-requires c κs = search needs
@@ -41,8 +50,8 @@ few-stale-requires c κs = search needs
 cast-result : tie.Need-cast-result Inv-loop μ-loop
 cast-result c = omega arith
 
-returns-2 : tie.Need-returns-2 Inv-loop μ-loop
-returns-2 c = c .few-stale .ensures
+returns-3 : tie.Need-returns-3 Inv-loop μ-loop
+returns-3 c = c .few-stale .ensures
 
 loop-holds : tie.Need-loop-holds Inv-loop μ-loop
 loop-holds c = (omega arith, total-none _)
@@ -83,8 +92,8 @@ loop-less c = omega arith
 loop-again : tie.Need-loop-again Inv-loop μ-loop
 loop-again c = (omega arith, counted c)
 
-returns-3 : tie.Need-returns-3 Inv-loop μ-loop
-returns-3 c =
+returns-4 : tie.Need-returns-4 Inv-loop μ-loop
+returns-4 c =
     let l = c .before in
     let line = l .before .before .before .before .args .line .now in
     let all : l .loop .k ≡ length line = omega arith in
@@ -96,11 +105,13 @@ blocks-stale-spec =
     (tie.spec
     Inv-loop
     μ-loop
-    all-complete-requires
+    all-are-requires
     returns
+    all-are-requires-2
+    returns-2
     few-stale-requires
     cast-result
-    returns-2
+    returns-3
     loop-holds
     sub-least
     least-requires
@@ -114,4 +125,4 @@ blocks-stale-spec =
     add-k
     loop-less
     loop-again
-    returns-3)
+    returns-4)
