@@ -2,6 +2,7 @@
 pub mod Whole
 pub mod Floor
 pub mod Formulas
+pub mod LimitedLaws
 pub mod Shares
 pub mod Clamp
 pub mod Filtering

@@ -1,8 +1,9 @@
 // The colour arithmetic of one pixel or one 2x2 block: RGB to YUV and back (MS-RDPEGFX 3.3.8.3.1), the average of a block
-// and the filter that undoes it (3.3.8.3.2).
+// and the filter that undoes it (3.3.8.3.2); and the same conversion of limited range (limited).
 // Promised: each call is total on bytes and answers what the formula of specs/Colour.antt says over the whole numbers, with
 // division rounded down. The reverse transform takes its products from four tables (products.rt, specs/Products.antt); the rest has no
 // signed number. Every sum fits 16 bits, which compilers turn into short vector code.
+pub mod limited; // BT.601 of limited range
 pub mod products; // the four tables of products
 
 ghost use mathlib.Core.Path.{_≡_};
@@ -11,6 +12,7 @@ ghost use lib.ListN.{getD};
 ghost use lib.Signed.{mag};
 ghost use Rattle.colour.specs.Whole.{_÷_};
 ghost use Rattle.colour.specs.Colour.{forwardOf, reverseOf, averageOf, undoneOf, undoneIn};
+ghost use Rattle.colour.specs.Limited.{forwardBy};
 ghost use Rattle.colour.specs.Products.{
   redV,
   greenU,
@@ -23,6 +25,12 @@ ghost use Rattle.colour.specs.Products.{
   channelOf,
   shadeOf,
 };
+
+// Which colour rules: full range, as AVC444 has them, or BT.601 of limited range, as video has them.
+pub enum Matrix {
+    Full,
+    Limited,
+}
 
 #[repr(C)]
 pub struct Yuv {
@@ -103,6 +111,16 @@ pub fn forward(r: u8, g: u8, b: u8) -> Yuv
     let u = chroma_u(r, g, b);
     let v = chroma_v(r, g, b);
     Yuv { y, u, v }
+}
+
+// Y, U and V of a colour by the matrix.
+pub fn forward_by(matrix: Matrix, r: u8, g: u8, b: u8) -> Yuv
+    ensures { λ p. ⌜ p ≡ forwardBy matrix r g b ⌝ }
+{
+    match matrix {
+        Matrix::Full => forward(r, g, b),
+        Matrix::Limited => limited::forward(r, g, b),
+    }
 }
 
 // What a product adds to a channel: p / 256, rounded down, since (256 Y + p) / 256 is Y + p / 256.
