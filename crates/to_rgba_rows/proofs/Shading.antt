@@ -19,7 +19,7 @@ use Rattle.lent.specs.Pixels.{bytes, done}
 use Rattle.lent.proofs.Bools.{split}
 use Rattle.lent.proofs.Paint.{paint-ext}
 use Rattle.lent.proofs.Pixels.{done-step}
-use Rattle.to_rgba_rows.specs.Rules.{shadesFrom}
+use Rattle.to_rgba_rows.specs.Rules.{shadesFrom, halfOf}
 use Rattle.to_rgba_rows.specs.Fits.{Shares, Small}
 
 -- ---- the shares of one channel, by any rule
@@ -62,7 +62,34 @@ module _ (u v : List ℕ) (c : ℕ) {n : ℕ} {r g b : List ℤ} (made : SharesF
       (λ t. shadeOf (getD y (at + k) 0) (made .0 .at (place k) h .is t) (made .1 .0 .at (place k) h .is t) (made .1 .1 .at (place k) h .is t))
       ∙ reverse-shared _ _ _
 
--- ---- pixels
+-- ---- pixels, by any rule that makes one of its luma and of the chroma at a place
+
+abbrev pub placed : (ℕ → ℕ → List ℕ) → (ℕ → ℕ) → List ℕ → ℕ → ℕ → List ℕ
+placed rule place luma at k = rule (getD luma (at + k) 0) (place k)
+
+module _ (rule : ℕ → ℕ → List ℕ) (four : (y j : ℕ) → length (rule y j) ≡ 4) (luma : List ℕ) (at : ℕ) (xs : List ℕ) where
+  -- pixel k is stored, of its luma y and the chroma at place j, where the first k pixels are done
+  pub placed-step : (place : ℕ → ℕ) (k m : ℕ) {was is p : List ℕ} {y j : ℕ} → y ≡ getD luma (at + k) 0 → j ≡ place k
+      → was ≡ done (placed rule place luma at) k xs → is ≡ sets was (4 * k) p → p ≡ rule y j → 4 * k + 4 ≤ length xs → m ≡ k + 1
+      → is ≡ done (placed rule place luma at) m xs
+  placed-step place k m {y} {j} here there before store pixel room next =
+      done-step _ xs k m before store (pixel ∙ (λ t. rule (here t) (there t))) (ap length pixel ∙ four y j) room next
+
+  -- pair i is stored, two pixels that share their chroma, where the pairs before it are done
+  pub pair-step : (i : ℕ) {was mid is p q : List ℕ} {a b : ℕ} → (a ≡ getD luma (at + 2 * i) 0) × (b ≡ getD luma (at + 2 * i + 1) 0)
+      → was ≡ done (placed rule halfOf luma at) (2 * i) xs → mid ≡ sets was (4 * (2 * i)) p → p ≡ rule a i
+      → is ≡ sets mid (4 * (2 * i + 1)) q → q ≡ rule b i → 4 * (2 * (i + 1)) ≤ length xs
+      → is ≡ done (placed rule halfOf luma at) (2 * (i + 1)) xs
+  pair-step i word before store pixel store′ pixel′ room =
+      let next : at + 2 * i + 1 ≡ at + (2 * i + 1) = omega arith in
+      let first = placed-step halfOf (2 * i) (2 * i + 1) (word .0) (omega arith) before store pixel (omega arith) refl in
+      placed-step halfOf (2 * i + 1) (2 * (i + 1)) (word .1 ∙ ap (λ (k : ℕ). getD luma k 0) next) (omega arith) first store′ pixel′ (omega arith) (omega arith)
+
+-- ---- pixels of shares
+
+-- the pixel of luma y and the shares at place j
+abbrev pub shadeAt : List ℤ → List ℤ → List ℤ → ℕ → ℕ → List ℕ
+shadeAt r g b y j = shadeOf y (getD r j (pos 0)) (getD g j (pos 0)) (getD b j (pos 0))
 
 module _ {n : ℕ} {r g b : List ℤ} (small : Small n r × Small n g × Small n b) where
   -- what `shade` requires of the shares at place j
@@ -73,21 +100,15 @@ module _ {n : ℕ} {r g b : List ℤ} (small : Small n r × Small n g × Small n
       one : {xs : List ℤ} → Small n xs → mag (toZ w16 (ofZ w16 (getD xs j (pos 0)))) < 512
       one s = rw (kept (s .at j h)) (s .at j h)
 
-  -- pixel k is stored, of its luma y and the shares at place j, where the first k pixels are done
-  pub shade-step : (place : ℕ → ℕ) (luma : List ℕ) (at : ℕ) (xs : List ℕ) (k m : ℕ) {was is p : List ℕ} {y j : ℕ}
-      → y ≡ getD luma (at + k) 0 → j ≡ place k → j < n
-      → was ≡ done (shadesFrom place luma at r g b) k xs → is ≡ sets was (4 * k) p
+  -- and what it makes of them
+  pub shade-kept : {p : List ℕ} (y j : ℕ) → j < n
       → p ≡ shadeOf y (toZ w16 (ofZ w16 (getD r j (pos 0)))) (toZ w16 (ofZ w16 (getD g j (pos 0)))) (toZ w16 (ofZ w16 (getD b j (pos 0))))
-      → 4 * k + 4 ≤ length xs → m ≡ k + 1 → is ≡ done (shadesFrom place luma at r g b) m xs
-  unfolding shadeOf
-  shade-step place luma at xs k m {y} {j} here there h before store pixel room next =
+      → p ≡ shadeAt r g b y j
+  shade-kept y j h pixel =
       let red = kept (small .0 .at j h) in
       let green = kept (small .1 .at j h) in
       let blue = kept (small .2 .at j h) in
-      let same = pixel
-      ∙ (λ t. shadeOf y (red t) (green t) (blue t))
-      ∙ (λ t. shadeOf (here t) (getD r (there t) (pos 0)) (getD g (there t) (pos 0)) (getD b (there t) (pos 0))) in
-      done-step _ xs k m before store same (ap length same) room next
+      pixel ∙ (λ t. shadeOf y (red t) (green t) (blue t))
 
 -- a part of n pixels, by two rules that agree on them
 pub part-ext : (f g : ℕ → List ℕ) (xs : List ℕ) (n : ℕ) → length xs ≤ 4 * n → ((k : ℕ) → k < n → f k ≡ g k)

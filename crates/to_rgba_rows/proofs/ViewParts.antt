@@ -1,23 +1,24 @@
--- The rows of a view by parts: the pixels of a part by the chroma (`shared-part`), the rows by their columns (`view-more`).
+-- The rows of a view by parts: the pixels of a part by the chroma (`shared-part`), the rows by their columns (`view-more`), or each row whole
+-- (`paired-row`).
 -- Assumes nothing.
 use Prim.Native.Nat.{ℕ, _+_, _*_, _/_, _%_, _-_, _<_, _≤_}
 use native.Mathlib.Nat.{add-mul}
 use native.Mathlib.Omega.{arith}
-use mathlib.Core.Path.{_≡_, refl, sym, ap, _∙_}
+use mathlib.Core.Path.{_≡_, refl, ap, _∙_}
 use mathlib.Core.List.{List}
 use lib.Dec.{ltb}
 use lib.IntN.{ℤ}
-use lib.ListN.{getD}
+use lib.ListN.{length, getD}
 use borrow.Author.Tests.{lt-ltb, le-ltb}
 use Rattle.colour.specs.Colour.{reverseOf}
 use Rattle.lent.specs.Pixels.{bytes}
-use Rattle.lent.specs.Paint.{painted, whole, within}
+use Rattle.lent.specs.Paint.{paint, painted, every, whole, within}
 use Rattle.lent.specs.Samples.{sample}
 use Rattle.lent.proofs.ByPart.{below-or-within}
 use Rattle.lent.proofs.Taken.{within-facts}
 use Rattle.lent.proofs.Painted.{painted-none, painted-ext, painted-more}
-use Rattle.to_rgba_rows.specs.Rules.{viewPixelAt, shadesFrom, halfOf}
-use Rattle.to_rgba_rows.proofs.Shading.{SharesFrom, shade-reversed}
+use Rattle.to_rgba_rows.specs.Rules.{viewPixelAt, shadesFrom, halfOf, pairedFrom}
+use Rattle.to_rgba_rows.proofs.Shading.{SharesFrom, shade-reversed, part-ext}
 
 -- ---- a part of each row
 
@@ -76,17 +77,24 @@ module _ (w h : ℕ) (s : ℕ → ℕ → ℕ) (xs : List ℕ) where
 
 -- ---- a view's rows
 
--- a pixel in the even row `row` or the one below it, seen from the even column k
-view-pixel : (luma chroma row l k i : ℕ) (y u v : List ℕ) → row % 2 ≡ 0 → l < 2 → k % 2 ≡ 0 → k ≤ i
-    → let at = row / 2 * chroma + k / 2 + (i - k) / 2 in
-    reverseOf (getD y (row * luma + l * luma + i) 0) (getD u at 0) (getD v at 0) ≡ viewPixelAt reverseOf luma chroma y u v (row + l) i
+-- the even row `row` and the one below it share their chroma
+half-row : (row l chroma : ℕ) → row % 2 ≡ 0 → l < 2 → row / 2 * chroma ≡ (row + l) / 2 * chroma
+half-row row l chroma even low = let half : row / 2 ≡ (row + l) / 2 = omega arith in ap (λ (q : ℕ). q * chroma) half
+
+-- a pixel by the places of its luma and its chroma, by any colour matrix
+view-pixel : (m : ℕ → ℕ → ℕ → List ℕ) (luma chroma r i p q : ℕ) (y u v : List ℕ) → p ≡ r * luma + i → q ≡ r / 2 * chroma + i / 2
+    → m (getD y p 0) (getD u q 0) (getD v q 0) ≡ viewPixelAt m luma chroma y u v r i
 unfolding viewPixelAt sample
-view-pixel luma chroma row l k i y u v even low even-k ge =
-    let line : row * luma + l * luma ≡ (row + l) * luma = sym (add-mul row l luma) in
-    let half : row / 2 ≡ (row + l) / 2 = omega arith in
-    let start : row / 2 * chroma ≡ (row + l) / 2 * chroma = ap (λ (q : ℕ). q * chroma) half in
-    let at : row / 2 * chroma + k / 2 + (i - k) / 2 ≡ (row + l) / 2 * chroma + i / 2 = omega (arith, start) in
-    λ t. reverseOf (getD y (line t + i) 0) (getD u (at t) 0) (getD v (at t) 0)
+view-pixel m luma chroma r i p q y u v here there = λ t. m (getD y (here t) 0) (getD u (there t) 0) (getD v (there t) 0)
+
+-- a row that was written whole, one sample of its chroma for two pixels
+pub paired-row : (m : ℕ → ℕ → ℕ → List ℕ) (luma chroma row l : ℕ) (y u v xs : List ℕ) {is : List ℕ} → row % 2 ≡ 0 → l < 2
+    → is ≡ paint every (bytes (pairedFrom m y ((row + l) * luma) u v (row / 2 * chroma))) xs
+    → is ≡ paint every (bytes (viewPixelAt m luma chroma y u v (row + l))) xs
+paired-row m luma chroma row l y u v xs even low back =
+    back
+    ∙ part-ext _ _ xs (length xs) (omega arith)
+    (λ k h. view-pixel m luma chroma (row + l) k _ _ y u v refl (omega (arith, half-row row l chroma even low)))
 
 -- of the rows that share their chroma the columns below k are done, and then those from k to below k + m
 pub view-more : (luma chroma row n lines k m : ℕ) (y u v xs : List ℕ) {was is : List ℕ} → row % 2 ≡ 0 → lines ≤ 2 → k % 2 ≡ 0
@@ -98,4 +106,5 @@ pub view-more : (luma chroma row n lines k m : ℕ) (y u v xs : List ℕ) {was i
     → is ≡ painted (4 * n) lines (λ l j. ltb j (4 * (k + m))) (λ l. bytes (pixel l)) xs
 view-more luma chroma row n lines k m y u v xs even few even-k before now =
     columns-more (4 * n) lines _ xs (4 * k) (4 * (k + m)) _ (omega arith) before now
-    (λ l j hl ge lt. bytes-same _ _ j (view-pixel luma chroma row l k (j / 4) y u v even (omega arith) even-k (omega arith)))
+    (λ l j hl ge lt. bytes-same _ _ j
+    (view-pixel reverseOf luma chroma (row + l) (j / 4) _ _ y u v (omega (arith, add-mul row l luma)) (omega (arith, half-row row l chroma even (omega arith)))))

@@ -4,6 +4,7 @@
 --   BlocksFit                   blocks of U and V, and what is made of them: p, q and marks are lengths too
 --   MarksFit xs                 32 marks, and their sum fits 16 bits
 --   RowFits, PixelRowsFit       a row of a picture, and its rows
+--   PairedFits                  a row of a view, two pixels for each sample of chroma
 --   LinesFit, ViewPartFits, ViewLinesFit      rows of a view that share their chroma: their luma alone; a part of them; the rows
 --   Shares n xs z               the first n of xs are the shares z
 --   Small n xs                  the first n of xs are small enough that no sum with a byte wraps
@@ -68,6 +69,13 @@ pub record PixelRowsFit (out y u v stride rows left top n h : ℕ) : Type 0 wher
   pub v-fits : rows * stride ≤ v
   pub even-stride : stride % 2 ≡ 0
   pub even-rows : rows % 2 ≡ 0
+
+-- n pixels of a row of a view, luma from `at` on and chroma from c on
+pub record PairedFits (out y u v at c n : ℕ) : Type 0 where
+  pub exact : out ≡ 4 * n
+  pub y-has : at + n ≤ y
+  pub u-has : c + (n + 1) / 2 ≤ u
+  pub v-has : c + (n + 1) / 2 ≤ v
 
 -- columns k to below k + m of `lines` rows of n pixels, whose luma starts at `at`
 pub record LinesFit (out y luma at n k m lines : ℕ) : Type 0 where

@@ -18,6 +18,7 @@
 --   markOf u v at below i           where the filter was applied in block i of such rows of U and V: 1 in U, 256 in V, their sum in both
 --   shadesFrom i y at r g b         pixels of luma from place `at` on and of three lists of shares, where pixel k has those at place i k
 --   halfOf k                        two pixels share their chroma
+--   pairedFrom m y at u v c         pixels by the colour matrix m, luma from place `at` on and chroma from place c on, one sample for two pixels
 use Prim.Native.Nat.{ℕ, _+_, _*_, _/_, _%_}
 use mathlib.Core.Bool.{Bool, cond, _&&_}
 use mathlib.Core.List.{List, [], _∷_}
@@ -80,3 +81,6 @@ shadesFrom i y at r g b k = shadeOf (getD y (at + k) 0) (getD r (i k) (pos 0)) (
 
 abbrev pub halfOf : ℕ → ℕ
 halfOf k = k / 2
+
+abbrev pub pairedFrom : (ℕ → ℕ → ℕ → List ℕ) → List ℕ → ℕ → List ℕ → List ℕ → ℕ → ℕ → List ℕ
+pairedFrom m y at u v c k = m (getD y (at + k) 0) (getD u (c + halfOf k) 0) (getD v (c + halfOf k) 0)

@@ -5,10 +5,11 @@ use native.Mathlib.Omega.{arith}
 use mathlib.Core.Path.{_≡_, refl, _∙_}
 use borrow.Author.Needs.{needs}
 use lib.ListN.{length}
+use Rattle.colour.specs.Products.{shadeOf}
 use Rattle.lent.specs.Pixels.{done}
 use Rattle.lent.proofs.Pixels.{done-none, done-all}
 use Rattle.to_rgba_rows.specs.Rules.{shadesFrom}
-use Rattle.to_rgba_rows.proofs.Shading.{shade-asks, shade-step}
+use Rattle.to_rgba_rows.proofs.Shading.{placed-step, shadeAt, shade-asks, shade-kept}
 use Rattle.to_rgba_rows.proofs.shades.Statement.{statement}
 use Rattle.to_rgba_rows.proofs.shades.Tie as tie
 
@@ -59,6 +60,7 @@ loop-less : tie.Need-loop-less Inv-loop μ-loop
 loop-less c = search needs
 
 loop-again : tie.Need-loop-again Inv-loop μ-loop
+unfolding shadeOf
 loop-again c =
     let put = c .before .before in
     let test = put .before .before .before .before .before .before .before in
@@ -67,8 +69,8 @@ loop-again c =
     let a = s .args in (
       omega (arith, test .loop-test .taken),
       search needs,
-      shade-step (s .pre .1) (λ k. k) (a .y .now) (a .at) _ (l .loop .i) _ refl refl (omega arith)
-          (l .loop .inv .2) (put .put-pixel .ensures) (put .before .shade .ensures) (omega arith) refl,
+      placed-step (shadeAt (a .r .now) (a .g .now) (a .b .now)) (λ y j. refl) (a .y .now) (a .at) _ (λ k. k) (l .loop .i) _ refl refl
+          (l .loop .inv .2) (put .put-pixel .ensures) (shade-kept (s .pre .1) _ (l .loop .i) (omega arith) (put .before .shade .ensures)) (omega arith) refl,
     )
 
 same-length : tie.Need-same-length Inv-loop μ-loop

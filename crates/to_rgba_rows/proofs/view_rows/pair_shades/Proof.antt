@@ -1,15 +1,16 @@
 -- `to_rgba_rows::view_rows::pair_shades` meets its contract. The invariant: the pixels of the first i pairs are done. A pair has one share of
--- each channel, at place i, and its luma is the two bytes of a word; `shade-step` is a pixel.
+-- each channel, at place i, and its luma is the two bytes of a word, `pair-step`.
 -- Assumes nothing.
 use borrow.Author.Needs.{needs}
-use Prim.Native.Nat.{ℕ, _+_, _*_, _/_, _-_, _≤_}
+use Prim.Native.Nat.{_+_, _*_, _/_, _-_, _≤_}
 use native.Mathlib.Omega.{arith}
-use mathlib.Core.Path.{_≡_, refl, ap, _∙_}
-use lib.ListN.{length, getD}
+use mathlib.Core.Path.{_≡_, refl, _∙_}
+use lib.ListN.{length}
+use Rattle.colour.specs.Products.{shadeOf}
 use Rattle.lent.specs.Pixels.{done}
 use Rattle.lent.proofs.Pixels.{done-none, done-at, done-all}
 use Rattle.to_rgba_rows.specs.Rules.{shadesFrom, halfOf}
-use Rattle.to_rgba_rows.proofs.Shading.{shade-asks, shade-step}
+use Rattle.to_rgba_rows.proofs.Shading.{placed-step, pair-step, shadeAt, shade-asks, shade-kept}
 use Rattle.to_rgba_rows.proofs.view_rows.pair_shades.Statement.{statement}
 use Rattle.to_rgba_rows.proofs.view_rows.pair_shades.Tie as tie
 
@@ -103,23 +104,20 @@ loop-less : tie.Need-loop-less Inv-loop μ-loop
 loop-less c = search needs
 
 loop-again : tie.Need-loop-again Inv-loop μ-loop
+unfolding shadeOf
 loop-again c =
     let second = c .before .before in
     let one = second .before .before .before .before .before .before .before .before in
     let word = one .before .before .before .before .before .before in
     let l = word .before .before in
     let s = l .before .before .before in
-    let y = s .args .y .now in
-    let at = s .args .at in
-    let i = l .loop .i in
-    let here : at + 2 * i + 1 ≡ at + (2 * i + 1) = omega arith in (
+    let a = s .args in
+    let i = l .loop .i in (
       search needs,
       search needs,
-      shade-step (s .pre .1) halfOf y at (s .args .out .now) (2 * i + 1) (2 * (i + 1)) {j = i} (word .two .ensures .1 ∙ ap (λ (k : ℕ). getD y k 0) here)
-          (omega arith) (omega arith)
-          (shade-step (s .pre .1) halfOf y at (s .args .out .now) (2 * i) (2 * i + 1) {j = i} (word .two .ensures .0) (omega arith) (omega arith)
-          (l .loop .inv .2) (one .put-pixel .ensures) (one .before .shade .ensures) (omega arith) refl)
-          (second .put-pixel2 .ensures) (second .before .shade2 .ensures) (omega arith) (omega arith),
+      pair-step (shadeAt (a .r .now) (a .g .now) (a .b .now)) (λ y j. refl) (a .y .now) (a .at) (a .out .now) i (word .two .ensures) (l .loop .inv .2)
+          (one .put-pixel .ensures) (shade-kept (s .pre .1) _ i (omega arith) (one .before .shade .ensures))
+          (second .put-pixel2 .ensures) (shade-kept (s .pre .1) _ i (omega arith) (second .before .shade2 .ensures)) (omega arith),
     )
 
 mul-end : tie.Need-mul-end Inv-loop μ-loop
@@ -162,15 +160,17 @@ same-length : tie.Need-same-length Inv-loop μ-loop
 same-length c = search needs
 
 returns : tie.Need-returns Inv-loop μ-loop
+unfolding shadeOf
 returns c =
     let last = c .before .before in
     let test = last .before .before .before .before .before .before .before in
     let l = test .before .before in
     let s = l .before .before .before in
-    let pairs = s .args .m / 2 in
-    shade-step (s .pre .1) halfOf (s .args .y .now) (s .args .at) (s .args .out .now) (2 * pairs) (2 * pairs + 1) {j = pairs}
-    refl (omega arith) (omega (arith, test .if1 .taken)) (done-at _ _ _ (2 * pairs) (l .loop .inv .2) (omega arith))
-    (last .put-pixel3 .ensures) (last .before .shade3 .ensures) (omega (arith, test .if1 .taken)) refl
+    let a = s .args in
+    let pairs = a .m / 2 in
+    placed-step (shadeAt (a .r .now) (a .g .now) (a .b .now)) (λ y j. refl) (a .y .now) (a .at) (a .out .now) halfOf (2 * pairs) (2 * pairs + 1)
+    refl (omega arith) (done-at _ _ _ (2 * pairs) (l .loop .inv .2) (omega arith)) (last .put-pixel3 .ensures)
+    (shade-kept (s .pre .1) _ pairs (omega (arith, test .if1 .taken)) (last .before .shade3 .ensures)) (omega (arith, test .if1 .taken)) refl
     ∙ done-all _ _ (2 * pairs + 1) (omega arith)
 
 same-length-2 : tie.Need-same-length-2 Inv-loop μ-loop
