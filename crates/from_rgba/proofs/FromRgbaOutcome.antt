@@ -1,5 +1,5 @@
 -- When from RGBA refuses, what it leaves where it does not, that its outcome is the only one, and what of the input has no part in it. By either
--- edge rule.
+-- matrix and either edge rule.
 -- Assumes nothing.
 use Prim.Native.Nat.{ℕ, _+_, _*_, _<_, _≤_}
 use native.Mathlib.Nat.{add-zero}
@@ -17,7 +17,8 @@ use Rattle.lent.proofs.Exactly.{below, not-below}
 use Rattle.picture.proofs.Sizes.{short-exactly, fit-exactly}
 use Rattle.lent.proofs.Refusal.{refusal-exactly, refusal-none}
 use Rattle.lent.proofs.Outcome.{outcome-unique}
-use Rattle.colour.specs.Colour.{forwardOf}
+use Rattle.colour.specs.Limited.{forwardBy}
+use Rattle.colour.specs.declared.Matrix.{Matrix}
 use Rattle.colour.specs.declared.Yuv.{Yuv}
 use Rattle.from_rgba.specs.declared.edges.Edge.{Edge}
 use Rattle.from_rgba.specs.Averaged.{averaged}
@@ -52,12 +53,12 @@ FromInput = List ℕ × Size × List ℕ × List ℕ × List ℕ
 abbrev pub fromAnswerOf : FromInput → Answer
 fromAnswerOf i = answerOf (fromNumberOf (i .1) (length (i .0)) (length (i .2)) (length (i .3)) (length (i .4))) 0
 
-abbrev pub fromBuffers : Edge → FromInput → List (List ℕ)
-fromBuffers e i = fromBuffersOf e (i .0) (i .1) (i .2) (i .3) (i .4)
+abbrev pub fromBuffers : Matrix → Edge → FromInput → List (List ℕ)
+fromBuffers m e i = fromBuffersOf m e (i .0) (i .1) (i .2) (i .3) (i .4)
 
-pub from-unique : (e : Edge) (px : List ℕ) (z : Size) (y u v : List ℕ) (r q : Answer) (rs qs : List (List ℕ))
-    → FromRgbaOutcome e px z y u v r rs → FromRgbaOutcome e px z y u v q qs → (r ≡ q) × (rs ≡ qs)
-from-unique e px z y u v = outcome-unique fromAnswerOf (fromBuffers e) (px, z, y, u, v)
+pub from-unique : (m : Matrix) (e : Edge) (px : List ℕ) (z : Size) (y u v : List ℕ) (r q : Answer) (rs qs : List (List ℕ))
+    → FromRgbaOutcome m e px z y u v r rs → FromRgbaOutcome m e px z y u v q qs → (r ≡ q) × (rs ≡ qs)
+from-unique m e px z y u v = outcome-unique fromAnswerOf (fromBuffers m e) (px, z, y, u, v)
 
 -- the three planes' passes read no sample from outside the plane
 module _ (z : Size) where
@@ -69,18 +70,18 @@ module _ (z : Size) where
 
 -- ---- alpha, and input past the pixels, reach no answer
 
-module _ (z : Size) (px qx : List ℕ) (agree : SamePixels z px qx) where
-  pixel : (r c : ℕ) → inPicture z r c ≡ true → convertedOf px z r c ≡ convertedOf qx z r c
+module _ (m : Matrix) (z : Size) (px qx : List ℕ) (agree : SamePixels z px qx) where
+  pixel : (r c : ℕ) → inPicture z r c ≡ true → convertedOf m px z r c ≡ convertedOf m qx z r c
   unfolding colourAt
   pixel r c e =
       let f = inside-facts (z .width) (z .height) r c e in
       let red : getD px (4 * (r * z .width + c)) 0 ≡ getD qx (4 * (r * z .width + c)) 0 = simp add-zero at (agree .same r c 0 (f .0) (f .1) (omega arith)) in
-      λ i. forwardOf (red i) (agree .same r c 1 (f .0) (f .1) (omega arith) i) (agree .same r c 2 (f .0) (f .1) (omega arith) i)
+      λ i. forwardBy m (red i) (agree .same r c 1 (f .0) (f .1) (omega arith) i) (agree .same r c 2 (f .0) (f .1) (omega arith) i)
 
-  plane-same : (pick : Yuv → ℕ) (pad r c : ℕ) → cond (inPicture z r c) (pick (convertedOf px z r c)) pad ≡ cond (inPicture z r c) (pick (convertedOf qx z r c)) pad
+  plane-same : (pick : Yuv → ℕ) (pad r c : ℕ) → cond (inPicture z r c) (pick (convertedOf m px z r c)) pad ≡ cond (inPicture z r c) (pick (convertedOf m qx z r c)) pad
   plane-same pick pad r c = cond-ext (inPicture z r c) (inPicture z r c) _ _ pad refl (λ e. ap pick (pixel r c e))
 
-  pub from-same : (e : Edge) (y u v : List ℕ) → rgbaShort z (length px) ≡ rgbaShort z (length qx) → (fromAnswerOf (px, z, y, u, v) ≡ fromAnswerOf (qx, z, y, u, v)) × (fromBuffersOf e px z y u v ≡ fromBuffersOf e qx z y u v)
+  pub from-same : (e : Edge) (y u v : List ℕ) → rgbaShort z (length px) ≡ rgbaShort z (length qx) → (fromAnswerOf (px, z, y, u, v) ≡ fromAnswerOf (qx, z, y, u, v)) × (fromBuffersOf m e px z y u v ≡ fromBuffersOf m e qx z y u v)
   unfolding fromBuffersOf
   from-same e y u v short =
       let number : fromNumberOf z (length px) (length y) (length u) (length v) ≡ fromNumberOf z (length qx) (length y) (length u) (length v) = λ i. refusal ((short i, 2) ∷ (planesShort z (length y) (length u) (length v), 1) ∷ []) in (

@@ -1,9 +1,10 @@
 -- The planes of a picture that is made from RGBA pixels, before the average (R41). The picture has `width` columns and
 -- `height` rows; its planes have both rounded up to 16.
 --
---   colourAt px k                  Y, U and V of pixel k of the bytes px: four bytes a pixel, red, green, blue and an alpha that is ignored
---   colourApart r g b k            the same of the pixel whose bytes are at place k of three lists
---   inputAt px width r c           the same of the input's pixel at row r, column c
+--   colourAt m px k                Y, U and V, by the matrix m, of pixel k of the bytes px: four bytes a pixel, red, green, blue and an alpha
+--                                  that is ignored
+--   colourApart m r g b k          the same of the pixel whose bytes are at place k of three lists
+--   inputAt m px width r c         the same of the input's pixel at row r, column c
 --   inside width height r c        row r, column c is within the width and height; the rest of a plane is padding
 --   paddingFromOf width height r   the column from which row r is padding
 --   lineOf px at n                 the n pixels from byte `at` on
@@ -19,18 +20,19 @@ use lib.Dec.{ltb}
 use lib.ListN.{getD, take, drop}
 use Rattle.lent.specs.Paint.{paint, every}
 use Rattle.lent.specs.Sizes.{roundUp}
-use Rattle.colour.specs.Colour.{forwardOf}
+use Rattle.colour.specs.Limited.{forwardBy}
+use Rattle.colour.specs.declared.Matrix.{Matrix}
 use Rattle.colour.specs.declared.Yuv.{Yuv}
 
-unfoldable pub colourAt : List ℕ → ℕ → Yuv
-colourAt px k = forwardOf (getD px (4 * k) 0) (getD px (4 * k + 1) 0) (getD px (4 * k + 2) 0)
+unfoldable pub colourAt : Matrix → List ℕ → ℕ → Yuv
+colourAt m px k = forwardBy m (getD px (4 * k) 0) (getD px (4 * k + 1) 0) (getD px (4 * k + 2) 0)
 
-abbrev pub colourApart : List ℕ → List ℕ → List ℕ → ℕ → Yuv
-colourApart r g b k = forwardOf (getD r k 0) (getD g k 0) (getD b k 0)
+abbrev pub colourApart : Matrix → List ℕ → List ℕ → List ℕ → ℕ → Yuv
+colourApart m r g b k = forwardBy m (getD r k 0) (getD g k 0) (getD b k 0)
 
 -- "convert each pixel": they are packed, row after row of `width` pixels
-abbrev pub inputAt : List ℕ → ℕ → ℕ → ℕ → Yuv
-inputAt px width r c = colourAt px (r * width + c)
+abbrev pub inputAt : Matrix → List ℕ → ℕ → ℕ → ℕ → Yuv
+inputAt m px width r c = colourAt m px (r * width + c)
 
 unfoldable pub inside : ℕ → ℕ → ℕ → ℕ → Bool
 inside width height r c = ltb r height && ltb c width

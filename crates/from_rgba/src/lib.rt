@@ -1,8 +1,8 @@
 // A 4:4:4 picture from RGBA pixels (ports `Yuv444Frame::from_rgba`).
 //
-// Each pixel is converted (rows), the padding is put by the edge rule (edges), and then U and V of each even row and even column are
-// replaced by their block's average (averages). The edge rule fills the edge, or leaves the padding as the Rust does. The call promises its
-// number and every byte of the three buffers, for every input, size and length: a refusal alters nothing.
+// Each pixel is converted by the colour matrix (rows), the padding is put by the edge rule (edges), and then U and V of each even row and even
+// column are replaced by their block's average (averages). The edge rule fills the edge, or leaves the padding as the Rust does. The call promises
+// its number and every byte of the three buffers, for every input, matrix, size and length: a refusal alters nothing.
 pub mod averages; // the average of each 2x2 block
 pub mod edges; // the padding
 pub mod rows; // the converted pixels
@@ -25,6 +25,7 @@ ghost use Rattle.from_rgba.specs.FromRgba.{
   FromRgbaOutcome,
 };
 use crate::edges::Edge;
+use colour::Matrix;
 use picture::Size;
 
 // Refusal 2: n bytes of RGBA are fewer than width x height x 4.
@@ -62,24 +63,33 @@ fn finish_chroma(edge: Edge, plane: &mut [u8], size: Size)
 }
 
 // The three planes: the converted pixels, the padding, the averages of U and V.
-fn make_planes(edge: Edge, rgba: &[u8], size: Size, y: &mut [u8], u: &mut [u8], v: &mut [u8])
+fn make_planes(
+    matrix: Matrix,
+    edge: Edge,
+    rgba: &[u8],
+    size: Size,
+    y: &mut [u8],
+    u: &mut [u8],
+    v: &mut [u8],
+)
     requires { ⌜ RoomFor (size .width) (size .height) (length (now rgba)) (length (now y)) (length (now u)) (length (now v)) ⌝ }
-    ensures y { λ _. ⌜ now (y .exit) ≡ planeOf size (withEdge edge size (lumaPlane size (now (rgba .entry)))) (now (y .entry)) ⌝ }
-    ensures u { λ _. ⌜ now (u .exit) ≡ planeOf size (averaged (withEdge edge size (chromaUPlane size (now (rgba .entry)))))
+    ensures y { λ _. ⌜ now (y .exit) ≡ planeOf size (withEdge edge size (lumaPlane matrix size (now (rgba .entry)))) (now (y .entry)) ⌝ }
+    ensures u { λ _. ⌜ now (u .exit) ≡ planeOf size (averaged (withEdge edge size (chromaUPlane matrix size (now (rgba .entry)))))
         (now (u .entry)) ⌝ }
-    ensures v { λ _. ⌜ now (v .exit) ≡ planeOf size (averaged (withEdge edge size (chromaVPlane size (now (rgba .entry)))))
+    ensures v { λ _. ⌜ now (v .exit) ≡ planeOf size (averaged (withEdge edge size (chromaVPlane matrix size (now (rgba .entry)))))
         (now (v .entry)) ⌝ }
 {
-    crate::rows::convert_planes(rgba, size.width, size.height, y, u, v);
+    crate::rows::convert_planes(matrix, rgba, size.width, size.height, y, u, v);
     crate::edges::put_edge(edge, y, size.width, size.height);
     finish_chroma(edge, u, size);
     finish_chroma(edge, v, size);
 }
 
-// A picture from width x height pixels of four bytes; what follows them, and their alpha, is ignored. Its padding is by the edge rule: Filled,
-// each sample of it is the nearest one of the picture; or Fresh, Y 0, U and V 128, which the last averages take in. Ports `Yuv444Frame::from_rgba`,
-// which has the second.
+// A picture from width x height pixels of four bytes, converted by the matrix; what follows them, and their alpha, is ignored. Its padding is by
+// the edge rule: Filled, each sample of it is the nearest one of the picture; or Fresh, Y 0, U and V 128, which the last averages take in.
+// Ports `Yuv444Frame::from_rgba`, which has full range and the second.
 pub fn with_edge(
+    matrix: Matrix,
     edge: Edge,
     rgba: &[u8],
     size: Size,
@@ -87,14 +97,14 @@ pub fn with_edge(
     u: &mut [u8],
     v: &mut [u8],
 ) -> lent::Answer
-    ensures { λ r. ⌜ FromRgbaOutcome edge (now (rgba .entry)) size (now (y .entry)) (now (u .entry)) (now (v .entry))
+    ensures { λ r. ⌜ FromRgbaOutcome matrix edge (now (rgba .entry)) size (now (y .entry)) (now (u .entry)) (now (v .entry))
         r (now (y .exit) ∷ now (u .exit) ∷ now (v .exit) ∷ []) ⌝ }
 {
     let number = from_number(size, rgba.len(), y.len(), u.len(), v.len());
     if number != 0 {
         return lent::Answer { number, count: 0 };
     }
-    make_planes(edge, rgba, size, y, u, v);
+    make_planes(matrix, edge, rgba, size, y, u, v);
     lent::Answer {
         number: 0,
         count: 0,

@@ -1,7 +1,7 @@
 // The rows of a picture that is made from RGBA pixels: padding, then the converted pixels, before the averages.
 //
-// `convert_planes` promises every byte of the three planes; bytes after them stay. A width and a height are all that it needs of a
-// picture, so it stands below the size record.
+// `convert_planes` promises every byte of the three planes, by either colour matrix; bytes after them stay. A width and a height are all that
+// it needs of a picture, so it stands below the size record.
 ghost use mathlib.Core.Path.{_≡_};
 ghost use mathlib.Core.Bool.{not, cond};
 ghost use Prim.Native.Nat.{_+_, _*_, _≤_};
@@ -20,6 +20,7 @@ ghost use Rattle.from_rgba.specs.Rows.{
   LineFits,
   RoomFor,
 };
+use colour::Matrix;
 
 // The column from which row `row` is padding.
 fn padding_from(width: u16, height: u16, row: usize) -> usize
@@ -68,8 +69,9 @@ fn apart(r: &mut [u8; 16], g: &mut [u8; 16], b: &mut [u8; 16], pixels: &[u8])
     }
 }
 
-// Y, U and V of 16 colours.
+// Y, U and V of 16 colours. The matrix is one for all of them, so that the compiler asks for it once.
 fn forward_16(
+    matrix: Matrix,
     y: &mut [u8; 16],
     u: &mut [u8; 16],
     v: &mut [u8; 16],
@@ -79,15 +81,15 @@ fn forward_16(
 )
     requires { ⌜ (length (now y) ≡ 16) × (length (now u) ≡ 16) × (length (now v) ≡ 16) ⌝ }
     ensures y { λ _. ⌜ now (y .exit) ≡ paint every
-        (λ k. colourApart (now (r .entry)) (now (g .entry)) (now (b .entry)) k .y) (now (y .entry)) ⌝ }
+        (λ k. colourApart matrix (now (r .entry)) (now (g .entry)) (now (b .entry)) k .y) (now (y .entry)) ⌝ }
     ensures u { λ _. ⌜ now (u .exit) ≡ paint every
-        (λ k. colourApart (now (r .entry)) (now (g .entry)) (now (b .entry)) k .u) (now (u .entry)) ⌝ }
+        (λ k. colourApart matrix (now (r .entry)) (now (g .entry)) (now (b .entry)) k .u) (now (u .entry)) ⌝ }
     ensures v { λ _. ⌜ now (v .exit) ≡ paint every
-        (λ k. colourApart (now (r .entry)) (now (g .entry)) (now (b .entry)) k .v) (now (v .entry)) ⌝ }
+        (λ k. colourApart matrix (now (r .entry)) (now (g .entry)) (now (b .entry)) k .v) (now (v .entry)) ⌝ }
 {
     let mut i = 0;
     while i < 16 {
-        let c = colour::forward(r[i], g[i], b[i]);
+        let c = colour::forward_by(matrix, r[i], g[i], b[i]);
         y[i] = c.y;
         u[i] = c.u;
         v[i] = c.v;
@@ -108,12 +110,12 @@ fn put_16(dst: &mut [u8], from: &[u8; 16])
 }
 
 // Y, U and V of 16 pixels, through local arrays, so that nothing that is read can be what was written: each step is vector code.
-fn forward_part(pixels: &[u8], y: &mut [u8], u: &mut [u8], v: &mut [u8])
+fn forward_part(matrix: Matrix, pixels: &[u8], y: &mut [u8], u: &mut [u8], v: &mut [u8])
     requires { ⌜ PixelsFit (length (now pixels)) (length (now y)) (length (now u)) (length (now v)) ⌝ }
     requires { ⌜ length (now y) ≡ 16 ⌝ }
-    ensures y { λ _. ⌜ now (y .exit) ≡ paint every (λ k. colourAt (now (pixels .entry)) k .y) (now (y .entry)) ⌝ }
-    ensures u { λ _. ⌜ now (u .exit) ≡ paint every (λ k. colourAt (now (pixels .entry)) k .u) (now (u .entry)) ⌝ }
-    ensures v { λ _. ⌜ now (v .exit) ≡ paint every (λ k. colourAt (now (pixels .entry)) k .v) (now (v .entry)) ⌝ }
+    ensures y { λ _. ⌜ now (y .exit) ≡ paint every (λ k. colourAt matrix (now (pixels .entry)) k .y) (now (y .entry)) ⌝ }
+    ensures u { λ _. ⌜ now (u .exit) ≡ paint every (λ k. colourAt matrix (now (pixels .entry)) k .u) (now (u .entry)) ⌝ }
+    ensures v { λ _. ⌜ now (v .exit) ≡ paint every (λ k. colourAt matrix (now (pixels .entry)) k .v) (now (v .entry)) ⌝ }
 {
     let mut r = [0u8; 16];
     let mut g = [0u8; 16];
@@ -122,18 +124,18 @@ fn forward_part(pixels: &[u8], y: &mut [u8], u: &mut [u8], v: &mut [u8])
     let mut q = [0u8; 16];
     let mut s = [0u8; 16];
     apart(&mut r, &mut g, &mut b, pixels);
-    forward_16(&mut p, &mut q, &mut s, &r, &g, &b);
+    forward_16(matrix, &mut p, &mut q, &mut s, &r, &g, &b);
     put_16(y, &p);
     put_16(u, &q);
     put_16(v, &s);
 }
 
 // Y, U and V of fewer than 16 pixels, one after the other.
-fn forward_tail(pixels: &[u8], y: &mut [u8], u: &mut [u8], v: &mut [u8])
+fn forward_tail(matrix: Matrix, pixels: &[u8], y: &mut [u8], u: &mut [u8], v: &mut [u8])
     requires { ⌜ PixelsFit (length (now pixels)) (length (now y)) (length (now u)) (length (now v)) ⌝ }
-    ensures y { λ _. ⌜ now (y .exit) ≡ paint every (λ k. colourAt (now (pixels .entry)) k .y) (now (y .entry)) ⌝ }
-    ensures u { λ _. ⌜ now (u .exit) ≡ paint every (λ k. colourAt (now (pixels .entry)) k .u) (now (u .entry)) ⌝ }
-    ensures v { λ _. ⌜ now (v .exit) ≡ paint every (λ k. colourAt (now (pixels .entry)) k .v) (now (v .entry)) ⌝ }
+    ensures y { λ _. ⌜ now (y .exit) ≡ paint every (λ k. colourAt matrix (now (pixels .entry)) k .y) (now (y .entry)) ⌝ }
+    ensures u { λ _. ⌜ now (u .exit) ≡ paint every (λ k. colourAt matrix (now (pixels .entry)) k .u) (now (u .entry)) ⌝ }
+    ensures v { λ _. ⌜ now (v .exit) ≡ paint every (λ k. colourAt matrix (now (pixels .entry)) k .v) (now (v .entry)) ⌝ }
 {
     let n = y.len();
     let mut i = 0;
@@ -141,7 +143,7 @@ fn forward_tail(pixels: &[u8], y: &mut [u8], u: &mut [u8], v: &mut [u8])
         let red = pixels[4 * i];
         let green = pixels[4 * i + 1];
         let blue = pixels[4 * i + 2];
-        let p = colour::forward(red, green, blue);
+        let p = colour::forward_by(matrix, red, green, blue);
         y[i] = p.y;
         u[i] = p.u;
         v[i] = p.v;
@@ -150,17 +152,18 @@ fn forward_tail(pixels: &[u8], y: &mut [u8], u: &mut [u8], v: &mut [u8])
 }
 
 // Y, U and V of a row of pixels, in one pass: 16 pixels a turn, then the rest.
-fn forward_row(pixels: &[u8], y: &mut [u8], u: &mut [u8], v: &mut [u8])
+fn forward_row(matrix: Matrix, pixels: &[u8], y: &mut [u8], u: &mut [u8], v: &mut [u8])
     requires { ⌜ PixelsFit (length (now pixels)) (length (now y)) (length (now u)) (length (now v)) ⌝ }
-    ensures y { λ _. ⌜ now (y .exit) ≡ paint every (λ k. colourAt (now (pixels .entry)) k .y) (now (y .entry)) ⌝ }
-    ensures u { λ _. ⌜ now (u .exit) ≡ paint every (λ k. colourAt (now (pixels .entry)) k .u) (now (u .entry)) ⌝ }
-    ensures v { λ _. ⌜ now (v .exit) ≡ paint every (λ k. colourAt (now (pixels .entry)) k .v) (now (v .entry)) ⌝ }
+    ensures y { λ _. ⌜ now (y .exit) ≡ paint every (λ k. colourAt matrix (now (pixels .entry)) k .y) (now (y .entry)) ⌝ }
+    ensures u { λ _. ⌜ now (u .exit) ≡ paint every (λ k. colourAt matrix (now (pixels .entry)) k .u) (now (u .entry)) ⌝ }
+    ensures v { λ _. ⌜ now (v .exit) ≡ paint every (λ k. colourAt matrix (now (pixels .entry)) k .v) (now (v .entry)) ⌝ }
 {
     let full = y.len() / 16 * 16;
     let mut k = 0;
     while k < full {
         let end = k + 16;
         forward_part(
+            matrix,
             &pixels[4 * k..4 * end],
             &mut y[k..end],
             &mut u[k..end],
@@ -169,6 +172,7 @@ fn forward_row(pixels: &[u8], y: &mut [u8], u: &mut [u8], v: &mut [u8])
         k = end;
     }
     forward_tail(
+        matrix,
         &pixels[4 * full..],
         &mut y[full..],
         &mut u[full..],
@@ -178,6 +182,7 @@ fn forward_row(pixels: &[u8], y: &mut [u8], u: &mut [u8], v: &mut [u8])
 
 // The `n` pixels from byte `at` on go to the samples from `line` on.
 fn forward_line(
+    matrix: Matrix,
     rgba: &[u8],
     at: usize,
     n: usize,
@@ -187,15 +192,16 @@ fn forward_line(
     v: &mut [u8],
 )
     requires { ⌜ LineFits (length (now rgba)) (length (now y)) (length (now u)) (length (now v)) at n line ⌝ }
-    ensures y { λ _. ⌜ now (y .exit) ≡ linePainted line n (λ k. colourAt (lineOf (now (rgba .entry)) at n) k .y)
+    ensures y { λ _. ⌜ now (y .exit) ≡ linePainted line n (λ k. colourAt matrix (lineOf (now (rgba .entry)) at n) k .y)
         (now (y .entry)) ⌝ }
-    ensures u { λ _. ⌜ now (u .exit) ≡ linePainted line n (λ k. colourAt (lineOf (now (rgba .entry)) at n) k .u)
+    ensures u { λ _. ⌜ now (u .exit) ≡ linePainted line n (λ k. colourAt matrix (lineOf (now (rgba .entry)) at n) k .u)
         (now (u .entry)) ⌝ }
-    ensures v { λ _. ⌜ now (v .exit) ≡ linePainted line n (λ k. colourAt (lineOf (now (rgba .entry)) at n) k .v)
+    ensures v { λ _. ⌜ now (v .exit) ≡ linePainted line n (λ k. colourAt matrix (lineOf (now (rgba .entry)) at n) k .v)
         (now (v .entry)) ⌝ }
 {
     let end = line + n;
     forward_row(
+        matrix,
         &rgba[at..at + 4 * n],
         &mut y[line..end],
         &mut u[line..end],
@@ -204,14 +210,22 @@ fn forward_line(
 }
 
 // The picture's own rows and columns of the three planes hold the converted pixels.
-fn forward_rows(rgba: &[u8], width: u16, height: u16, y: &mut [u8], u: &mut [u8], v: &mut [u8])
+fn forward_rows(
+    matrix: Matrix,
+    rgba: &[u8],
+    width: u16,
+    height: u16,
+    y: &mut [u8],
+    u: &mut [u8],
+    v: &mut [u8],
+)
     requires { ⌜ RoomFor width height (length (now rgba)) (length (now y)) (length (now u)) (length (now v)) ⌝ }
     ensures y { λ _. ⌜ now (y .exit) ≡ painted (roundUp 16 width) (roundUp 16 height) (inside width height)
-        (λ r c. inputAt (now (rgba .entry)) width r c .y) (now (y .entry)) ⌝ }
+        (λ r c. inputAt matrix (now (rgba .entry)) width r c .y) (now (y .entry)) ⌝ }
     ensures u { λ _. ⌜ now (u .exit) ≡ painted (roundUp 16 width) (roundUp 16 height) (inside width height)
-        (λ r c. inputAt (now (rgba .entry)) width r c .u) (now (u .entry)) ⌝ }
+        (λ r c. inputAt matrix (now (rgba .entry)) width r c .u) (now (u .entry)) ⌝ }
     ensures v { λ _. ⌜ now (v .exit) ≡ painted (roundUp 16 width) (roundUp 16 height) (inside width height)
-        (λ r c. inputAt (now (rgba .entry)) width r c .v) (now (v .entry)) ⌝ }
+        (λ r c. inputAt matrix (now (rgba .entry)) width r c .v) (now (v .entry)) ⌝ }
 {
     let stride = lent::round_up_16(width);
     let n = width as usize;
@@ -219,13 +233,14 @@ fn forward_rows(rgba: &[u8], width: u16, height: u16, y: &mut [u8], u: &mut [u8]
     let mut row = 0;
     while row < m {
         let at = 4 * (row * n);
-        forward_line(rgba, at, n, row * stride, y, u, v);
+        forward_line(matrix, rgba, at, n, row * stride, y, u, v);
         row += 1;
     }
 }
 
 // The three planes of a picture: padding, then the converted pixels.
 pub fn convert_planes(
+    matrix: Matrix,
     rgba: &[u8],
     width: u16,
     height: u16,
@@ -235,14 +250,14 @@ pub fn convert_planes(
 )
     requires { ⌜ RoomFor width height (length (now rgba)) (length (now y)) (length (now u)) (length (now v)) ⌝ }
     ensures y { λ _. ⌜ now (y .exit) ≡ painted (roundUp 16 width) (roundUp 16 height) whole
-        (λ r c. cond (inside width height r c) (inputAt (now (rgba .entry)) width r c .y) 0) (now (y .entry)) ⌝ }
+        (λ r c. cond (inside width height r c) (inputAt matrix (now (rgba .entry)) width r c .y) 0) (now (y .entry)) ⌝ }
     ensures u { λ _. ⌜ now (u .exit) ≡ painted (roundUp 16 width) (roundUp 16 height) whole
-        (λ r c. cond (inside width height r c) (inputAt (now (rgba .entry)) width r c .u) 128) (now (u .entry)) ⌝ }
+        (λ r c. cond (inside width height r c) (inputAt matrix (now (rgba .entry)) width r c .u) 128) (now (u .entry)) ⌝ }
     ensures v { λ _. ⌜ now (v .exit) ≡ painted (roundUp 16 width) (roundUp 16 height) whole
-        (λ r c. cond (inside width height r c) (inputAt (now (rgba .entry)) width r c .v) 128) (now (v .entry)) ⌝ }
+        (λ r c. cond (inside width height r c) (inputAt matrix (now (rgba .entry)) width r c .v) 128) (now (v .entry)) ⌝ }
 {
     pad_plane(y, width, height, 0);
     pad_plane(u, width, height, 128);
     pad_plane(v, width, height, 128);
-    forward_rows(rgba, width, height, y, u, v);
+    forward_rows(matrix, rgba, width, height, y, u, v);
 }

@@ -8,6 +8,7 @@ pub mod colour_calls; // for the runs that compare the port with its original, i
 pub mod apply_calls; // views into a picture and its map
 pub mod strict_calls; // the same, with lists that are refused whole; and why
 pub mod to_rgba_calls; // RGBA of a picture and of a view
+pub mod limited_calls; // both ways in limited range
 pub mod annex_b_calls; // the form of an H.264 payload
 pub mod picture_calls; // a 4:4:4 picture and its map, fresh or of RGBA pixels
 pub mod split_calls; // both views of a picture

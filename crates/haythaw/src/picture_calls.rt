@@ -2,6 +2,7 @@
 ghost use mathlib.Core.Path.{_≡_};
 ghost use mathlib.Core.List.{[], _∷_};
 ghost use Rattle.picture.specs.Sizes.{allocationSizeOf};
+ghost use Rattle.colour.specs.declared.Matrix.the-variants.{Full};
 ghost use Rattle.from_rgba.specs.declared.edges.Edge.the-variants.{Fresh, Filled};
 ghost use Rattle.map.specs.Map.{mapSizeOf};
 ghost use Rattle.haythaw.specs.Made.{HaythawNewOutcome, HaythawFromRgbaOutcome};
@@ -51,7 +52,7 @@ pub extern "C" fn haythaw_from_rgba(
     v: &mut [u8],
     map: &mut [u8],
 ) -> u32
-    ensures { λ r. ⌜ HaythawFromRgbaOutcome Filled (now (rgba .entry)) (sizeOf width height)
+    ensures { λ r. ⌜ HaythawFromRgbaOutcome Full Filled (now (rgba .entry)) (sizeOf width height)
         (now (y .entry)) (now (u .entry)) (now (v .entry)) (now (map .entry))
         r (now (y .exit) ∷ now (u .exit) ∷ now (v .exit) ∷ now (map .exit) ∷ []) ⌝ }
 {
@@ -69,7 +70,7 @@ pub extern "C" fn haythaw_from_rgba_rust(
     v: &mut [u8],
     map: &mut [u8],
 ) -> u32
-    ensures { λ r. ⌜ HaythawFromRgbaOutcome Fresh (now (rgba .entry)) (sizeOf width height)
+    ensures { λ r. ⌜ HaythawFromRgbaOutcome Full Fresh (now (rgba .entry)) (sizeOf width height)
         (now (y .entry)) (now (u .entry)) (now (v .entry)) (now (map .entry))
         r (now (y .exit) ∷ now (u .exit) ∷ now (v .exit) ∷ now (map .exit) ∷ []) ⌝ }
 {

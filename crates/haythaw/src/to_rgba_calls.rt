@@ -4,6 +4,7 @@ ghost use Rattle.colour.specs.Colour.{reverseOf};
 ghost use Rattle.to_rgba.specs.View.{ViewToRgbaOutcome};
 ghost use Rattle.map_picture.specs.Shown.{MapToRgbaOutcome};
 ghost use Rattle.haythaw.specs.Sizes.{sizesOf, sizeOf, rectOf};
+use colour::Matrix;
 use map_picture::Pixels;
 use picture::Size;
 use to_rgba::Rect;
@@ -58,5 +59,5 @@ pub extern "C" fn haythaw_view_to_rgba(
         luma_stride,
         chroma_stride,
     };
-    to_rgba::view_to_rgba(w, view_y, view_u, view_v, out)
+    to_rgba::view_to_rgba(Matrix::Full, w, view_y, view_u, view_v, out)
 }

@@ -8,6 +8,7 @@ use Rattle.lent.specs.declared.Answer.{Answer}
 use Rattle.lent.specs.Outcome.{Outcome, answerOf, lentAfter}
 use Rattle.lent.proofs.Ends.{lent-done}
 use Rattle.lent.proofs.Refusal.{refusal-none}
+use Rattle.colour.specs.declared.Matrix.{Matrix}
 use Rattle.picture.specs.declared.Size.{Size}
 use Rattle.from_rgba.specs.declared.edges.Edge.{Edge}
 use Rattle.from_rgba.specs.FromRgba.{rgbaShort}
@@ -48,7 +49,7 @@ module _ (z : Size) (y u v m₀ : List ℕ) {r : Answer} {y′ u′ v′ m : Lis
       picture-fit-exactly z (length y) (length u) (length v) (length m₀) .0
       (refusal-none ((pictureShort z (length y) (length u) (length v) (length m₀), 1) ∷ []) tt .0 (sym (ap (λ (a : Answer). a .number) (ends .answer)) ∙ zero) .0) .map
 
-  module _ (e : Edge) (px : List ℕ) (ends : MapFromRgbaOutcome e px z y u v m₀ r (y′ ∷ u′ ∷ v′ ∷ m ∷ [])) where
+  module _ (x : Matrix) (e : Edge) (px : List ℕ) (ends : MapFromRgbaOutcome x e px z y u v m₀ r (y′ ∷ u′ ∷ v′ ∷ m ∷ [])) where
     pub from-made : Lived z (λ i j. 2) m₀ [] m
     from-made = begun (mapFromNumberOf z (length px) (length y) (length u) (length v) (length m₀)) z (λ i j. 2) m₀ _ _ _ ends zero
 

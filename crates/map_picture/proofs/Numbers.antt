@@ -14,6 +14,7 @@ use Rattle.lent.specs.declared.Answer.{Answer}
 use Rattle.lent.proofs.Exactly.{below, not-below}
 use Rattle.lent.proofs.Refusal.{refusal-exactly, refusal-none}
 use Rattle.lent.proofs.Outcome.{outcome-unique}
+use Rattle.colour.specs.declared.Matrix.{Matrix}
 use Rattle.picture.specs.declared.Size.{Size}
 use Rattle.picture.specs.Sizes.{strideOf, rowsOf}
 use Rattle.picture.specs.New.{newNumberOf}
@@ -94,11 +95,11 @@ MapFromInput = List ℕ × Size × List ℕ × List ℕ × List ℕ × List ℕ
 abbrev mapFromNumber : MapFromInput → ℕ
 mapFromNumber i = mapFromNumberOf (i .1) (length (i .0)) (length (i .2)) (length (i .3)) (length (i .4)) (length (i .5))
 
-pub map-from-unique : (e : Edge) (px : List ℕ) (z : Size) (y u v m : List ℕ) (r q : Answer) (rs qs : List (List ℕ))
-    → MapFromRgbaOutcome e px z y u v m r rs → MapFromRgbaOutcome e px z y u v m q qs → (r ≡ q) × (rs ≡ qs)
-map-from-unique e px z y u v m =
+pub map-from-unique : (x : Matrix) (e : Edge) (px : List ℕ) (z : Size) (y u v m : List ℕ) (r q : Answer) (rs qs : List (List ℕ))
+    → MapFromRgbaOutcome x e px z y u v m r rs → MapFromRgbaOutcome x e px z y u v m q qs → (r ≡ q) × (rs ≡ qs)
+map-from-unique x e px z y u v m =
     outcome-unique (λ (i : MapFromInput). answerOf (mapFromNumber i) 0)
-    (λ (i : MapFromInput). mapFromBuffersOf (mapFromNumber i) e (i .0) (i .1) (i .2) (i .3) (i .4) (i .5)) (px, z, y, u, v, m)
+    (λ (i : MapFromInput). mapFromBuffersOf (mapFromNumber i) x e (i .0) (i .1) (i .2) (i .3) (i .4) (i .5)) (px, z, y, u, v, m)
 
 -- ---- to RGBA
 

@@ -4,7 +4,7 @@
 --   MapNewOutcome z y u v m           how it ends, refusals included
 --   mapFromNumberOf z k ny nu nv n    the number of from RGBA, k being the input's length: 2, then 1
 --   fromShortOf z k                   the same where the map is short
---   MapFromRgbaOutcome e px z y u v m      how it ends, by the edge rule e
+--   MapFromRgbaOutcome x e px z y u v m    how it ends, by the colour matrix x and the edge rule e
 use Prim.Native.Nat.{ℕ}
 use mathlib.Core.Bool.{cond}
 use mathlib.Core.List.{List, [], _∷_, _++_}
@@ -12,6 +12,7 @@ use lib.ListN.{length}
 use Rattle.lent.specs.declared.Answer.{Answer}
 use Rattle.lent.specs.Outcome.{Outcome, answerOf, lentAfter}
 use Rattle.lent.specs.Refusal.{refusal}
+use Rattle.colour.specs.declared.Matrix.{Matrix}
 use Rattle.picture.specs.declared.Size.{Size}
 use Rattle.picture.specs.New.{freshBuffersOf}
 use Rattle.from_rgba.specs.declared.edges.Edge.{Edge}
@@ -36,10 +37,10 @@ mapFromNumberOf z k ny nu nv n = refusal ((rgbaShort z k, 2) ∷ (pictureShort z
 abbrev pub fromShortOf : Size → ℕ → ℕ
 fromShortOf z k = cond (rgbaShort z k) 2 1
 
-abbrev pub mapFromBuffersOf : ℕ → Edge → List ℕ → Size → List ℕ → List ℕ → List ℕ → List ℕ → List (List ℕ)
-mapFromBuffersOf n e px z y u v m = madeBuffersOf n e px z y u v ++ (lentAfter n m (mapOf z (λ i j. 2) m) ∷ [])
+abbrev pub mapFromBuffersOf : ℕ → Matrix → Edge → List ℕ → Size → List ℕ → List ℕ → List ℕ → List ℕ → List (List ℕ)
+mapFromBuffersOf n x e px z y u v m = madeBuffersOf n x e px z y u v ++ (lentAfter n m (mapOf z (λ i j. 2) m) ∷ [])
 
-abbrev pub MapFromRgbaOutcome : Edge → List ℕ → Size → List ℕ → List ℕ → List ℕ → List ℕ → Answer → List (List ℕ) → Type 0
-MapFromRgbaOutcome e px z y u v m =
+abbrev pub MapFromRgbaOutcome : Matrix → Edge → List ℕ → Size → List ℕ → List ℕ → List ℕ → List ℕ → Answer → List (List ℕ) → Type 0
+MapFromRgbaOutcome x e px z y u v m =
     let n = mapFromNumberOf z (length px) (length y) (length u) (length v) (length m) in
-    Outcome (answerOf n 0) (mapFromBuffersOf n e px z y u v m)
+    Outcome (answerOf n 0) (mapFromBuffersOf n x e px z y u v m)

@@ -5,9 +5,11 @@
 ghost use mathlib.Core.Path.{_≡_};
 ghost use mathlib.Core.List.{[], _∷_};
 ghost use lib.ListN.{length};
+ghost use Rattle.colour.specs.declared.Matrix.the-variants.{Full, Limited};
 ghost use Rattle.from_rgba.specs.declared.edges.Edge.the-variants.{Fresh, Filled};
 ghost use Rattle.map_picture.specs.Made.{fromShortOf, MapNewOutcome, MapFromRgbaOutcome};
 ghost use Rattle.map_picture.specs.Shown.{mapPixelsOf, MapToRgbaOutcome};
+use colour::Matrix;
 use from_rgba::edges::Edge;
 use picture::Size;
 use to_rgba::Rect;
@@ -49,8 +51,9 @@ fn from_short(size: Size, n: usize) -> u32
     if from_rgba::rgba_short(size, n) { 2 } else { 1 }
 }
 
-// The picture of width x height pixels, its padding by the edge rule, and a map of 2 (from_rgba::with_edge).
+// The picture of width x height pixels, converted by the matrix, its padding by the edge rule, and a map of 2 (from_rgba::with_edge).
 fn with_edge(
+    matrix: Matrix,
     edge: Edge,
     rgba: &[u8],
     size: Size,
@@ -59,7 +62,7 @@ fn with_edge(
     v: &mut [u8],
     map: &mut [u8],
 ) -> lent::Answer
-    ensures { λ r. ⌜ MapFromRgbaOutcome edge (now (rgba .entry)) size (now (y .entry)) (now (u .entry)) (now (v .entry)) (now (map .entry))
+    ensures { λ r. ⌜ MapFromRgbaOutcome matrix edge (now (rgba .entry)) size (now (y .entry)) (now (u .entry)) (now (v .entry)) (now (map .entry))
         r (now (y .exit) ∷ now (u .exit) ∷ now (v .exit) ∷ now (map .exit) ∷ []) ⌝ }
 {
     if map::map_short(size, map.len()) {
@@ -68,7 +71,7 @@ fn with_edge(
             count: 0,
         };
     }
-    let made = from_rgba::with_edge(edge, rgba, size, y, u, v);
+    let made = from_rgba::with_edge(matrix, edge, rgba, size, y, u, v);
     if made.number != 0 {
         return made;
     }
@@ -85,13 +88,28 @@ pub fn from_rgba(
     v: &mut [u8],
     map: &mut [u8],
 ) -> lent::Answer
-    ensures { λ r. ⌜ MapFromRgbaOutcome Filled (now (rgba .entry)) size (now (y .entry)) (now (u .entry)) (now (v .entry)) (now (map .entry))
+    ensures { λ r. ⌜ MapFromRgbaOutcome Full Filled (now (rgba .entry)) size (now (y .entry)) (now (u .entry)) (now (v .entry)) (now (map .entry))
         r (now (y .exit) ∷ now (u .exit) ∷ now (v .exit) ∷ now (map .exit) ∷ []) ⌝ }
 {
-    with_edge(Edge::Filled, rgba, size, y, u, v, map)
+    with_edge(Matrix::Full, Edge::Filled, rgba, size, y, u, v, map)
 }
 
-// The same with padding of Y 0, U and V 128, which the last averages take in. Ports `Yuv444Frame::from_rgba`.
+// The same by BT.601 of limited range: the picture of a video.
+pub fn from_rgba_limited(
+    rgba: &[u8],
+    size: Size,
+    y: &mut [u8],
+    u: &mut [u8],
+    v: &mut [u8],
+    map: &mut [u8],
+) -> lent::Answer
+    ensures { λ r. ⌜ MapFromRgbaOutcome Limited Filled (now (rgba .entry)) size (now (y .entry)) (now (u .entry)) (now (v .entry))
+        (now (map .entry)) r (now (y .exit) ∷ now (u .exit) ∷ now (v .exit) ∷ now (map .exit) ∷ []) ⌝ }
+{
+    with_edge(Matrix::Limited, Edge::Filled, rgba, size, y, u, v, map)
+}
+
+// The picture of full range with padding of Y 0, U and V 128, which the last averages take in. Ports `Yuv444Frame::from_rgba`.
 pub fn from_rgba_rust(
     rgba: &[u8],
     size: Size,
@@ -100,10 +118,10 @@ pub fn from_rgba_rust(
     v: &mut [u8],
     map: &mut [u8],
 ) -> lent::Answer
-    ensures { λ r. ⌜ MapFromRgbaOutcome Fresh (now (rgba .entry)) size (now (y .entry)) (now (u .entry)) (now (v .entry)) (now (map .entry))
+    ensures { λ r. ⌜ MapFromRgbaOutcome Full Fresh (now (rgba .entry)) size (now (y .entry)) (now (u .entry)) (now (v .entry)) (now (map .entry))
         r (now (y .exit) ∷ now (u .exit) ∷ now (v .exit) ∷ now (map .exit) ∷ []) ⌝ }
 {
-    with_edge(Edge::Fresh, rgba, size, y, u, v, map)
+    with_edge(Matrix::Full, Edge::Fresh, rgba, size, y, u, v, map)
 }
 
 // The answer of a call that wrote nothing.

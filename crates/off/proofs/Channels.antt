@@ -1,4 +1,4 @@
--- What the bounds are in red, green and blue: of any Y, U and V, and of what picture to RGBA shows of a picture that from RGBA made.
+-- What the bounds are in red, green and blue: of any Y, U and V, and of what picture to RGBA shows of a picture that from RGBA made, both of full range.
 -- Assumes nothing.
 use Prim.Native.Nat.{ℕ, _+_, _*_, _%_, _<_}
 use native.Mathlib.Omega.{arith}
@@ -10,6 +10,7 @@ use Rattle.lent.specs.declared.Answer.{Answer}
 use Rattle.layout.specs.declared.Chroma.{Chroma}
 use Rattle.layout.specs.declared.Chroma.the-variants.{CU, CV}
 use Rattle.colour.specs.Colour.{redOf, greenOf, blueOf, reverseOf}
+use Rattle.colour.specs.declared.Matrix.the-variants.{Full}
 use Rattle.colour.proofs.Formulas.{red-is, green-is, blue-is}
 use Rattle.picture.specs.declared.Size.{Size}
 use Rattle.picture.specs.Sizes.{strideOf}
@@ -44,7 +45,7 @@ module _ (y u v u′ v′ bu au bv av : ℕ) (near-u : Near bu au u u′) (near-
 -- ---- what is shown of a pixel of the picture, by either edge rule
 
 module _ (e : Edge) (px : List ℕ) (z : Size) (y u v y′ u′ v′ : List ℕ) (n : Answer)
-    (ends : FromRgbaOutcome e px z y u v n (y′ ∷ u′ ∷ v′ ∷ [])) (none : n .number ≡ 0) (r c : ℕ) (hr : r < z .height) (hc : c < z .width) where
+    (ends : FromRgbaOutcome Full e px z y u v n (y′ ∷ u′ ∷ v′ ∷ [])) (none : n .number ≡ 0) (r c : ℕ) (hr : r < z .height) (hc : c < z .width) where
   abbrev buffers : List (List ℕ)
   buffers = y′ ∷ u′ ∷ v′ ∷ []
 
@@ -52,22 +53,22 @@ module _ (e : Edge) (px : List ℕ) (z : Size) (y u v y′ u′ v′ : List ℕ)
   pub shown-own : (r % 2 ≡ 1) ⊎ (c % 2 ≡ 1) → pixelAt (strideOf z) y′ u′ v′ r c ≡ ownPixel px z r c
   unfolding pixelAt
   shown-own odd =
-      let chroma : (k : Chroma) → chromaAt (leftOf k buffers) (strideOf z) r c ≡ chromaOf k (convertedOf px z r c) = λ k.
-      left-own e k px z y u v n buffers ends none r c (omega arith) (omega arith) odd ∙ before-own e k z px r c hr hc in
-      λ i. reverseOf (luma-own e px z y u v y′ u′ v′ n ends none r c hr hc i) (chroma CU i) (chroma CV i)
+      let chroma : (k : Chroma) → chromaAt (leftOf k buffers) (strideOf z) r c ≡ chromaOf k (convertedOf Full px z r c) = λ k.
+      left-own Full e k px z y u v n buffers ends none r c (omega arith) (omega arith) odd ∙ before-own Full e k z px r c hr hc in
+      λ i. reverseOf (luma-own Full e px z y u v y′ u′ v′ n ends none r c hr hc i) (chroma CU i) (chroma CV i)
 
   -- at an even row and an even column: near it, as near as its U and V are
   module _ (even-r : r % 2 ≡ 0) (even-c : c % 2 ≡ 0) where
-    chroma-off : (k : Chroma) → Off below above appliedBelow appliedAbove (beforeOf k e z px) (leftOf k buffers) (strideOf z) r c
-    chroma-off k = left-off e k px z y u v n buffers ends none r c (omega arith) (omega arith) even-r even-c
+    chroma-off : (k : Chroma) → Off below above appliedBelow appliedAbove (beforeOf Full k e z px) (leftOf k buffers) (strideOf z) r c
+    chroma-off k = left-off Full e k px z y u v n buffers ends none r c (omega arith) (omega arith) even-r even-c
 
-    by-chroma : (bu au bv av : ℕ) → Near bu au (beforeOf CU e z px r c) (chromaAt u′ (strideOf z) r c)
-        → Near bv av (beforeOf CV e z px r c) (chromaAt v′ (strideOf z) r c)
+    by-chroma : (bu au bv av : ℕ) → Near bu au (beforeOf Full CU e z px r c) (chromaAt u′ (strideOf z) r c)
+        → Near bv av (beforeOf Full CV e z px r c) (chromaAt v′ (strideOf z) r c)
         → ShownNear bu au bv av (ownPixel px z r c) (pixelAt (strideOf z) y′ u′ v′ r c)
     unfolding pixelAt
     by-chroma bu au bv av near-u near-v =
-        rw (luma-own e px z y u v y′ u′ v′ n ends none r c hr hc)
-        (channels-near _ _ _ _ _ bu au bv av (rw (before-own e CU z px r c hr hc) at near-u) (rw (before-own e CV z px r c hr hc) at near-v))
+        rw (luma-own Full e px z y u v y′ u′ v′ n ends none r c hr hc)
+        (channels-near _ _ _ _ _ bu au bv av (rw (before-own Full e CU z px r c hr hc) at near-u) (rw (before-own Full e CV z px r c hr hc) at near-v))
 
     pub shown-within : ShownNear below above below above (ownPixel px z r c) (pixelAt (strideOf z) y′ u′ v′ r c)
     shown-within = by-chroma below above below above (chroma-off CU .answer) (chroma-off CV .answer)
@@ -80,7 +81,7 @@ module _ (e : Edge) (px : List ℕ) (z : Size) (y u v y′ u′ v′ : List ℕ)
     shown-off = by-chroma _ _ _ _ (by-test CU (filteredAt u′ (strideOf z) r c) refl) (by-test CV (filteredAt v′ (strideOf z) r c) refl)
       where
         by-test : (k : Chroma) (t : Bool) → filteredAt (leftOf k buffers) (strideOf z) r c ≡ t
-            → Near (belowBy t) (aboveBy t) (beforeOf k e z px r c) (chromaAt (leftOf k buffers) (strideOf z) r c)
+            → Near (belowBy t) (aboveBy t) (beforeOf Full k e z px r c) (chromaAt (leftOf k buffers) (strideOf z) r c)
         by-test k true is = chroma-off k .applied is
         by-test k false is = chroma-off k .answer
 

@@ -1,4 +1,4 @@
--- How far a pixel can be off as it is shown: what R55 is in red, green and blue (R56).
+-- How far a pixel can be off as it is shown: what R55 is in red, green and blue (R56). Picture to RGBA is of full range, and so are these.
 --
 --   belowBy t, aboveBy t         the bounds of a sample: t says whether the filter was applied to it
 --   channelOf n                  n 256ths of a channel's step, rounded up
@@ -11,6 +11,7 @@ use mathlib.Core.Bool.{Bool, cond}
 use mathlib.Core.List.{List}
 use lib.ListN.{getD}
 use Rattle.colour.specs.Colour.{reverseOf}
+use Rattle.colour.specs.declared.Matrix.the-variants.{Full}
 use Rattle.picture.specs.declared.Size.{Size}
 use Rattle.from_rgba.specs.FromRgba.{convertedOf}
 use Rattle.off.specs.Off.{below, above, appliedBelow, appliedAbove, Near}
@@ -25,7 +26,7 @@ unfoldable pub channelOf : ℕ → ℕ
 channelOf n = (n + 255) / 256
 
 abbrev pub ownPixel : List ℕ → Size → ℕ → ℕ → List ℕ
-ownPixel px z r c = reverseOf (convertedOf px z r c .y) (convertedOf px z r c .u) (convertedOf px z r c .v)
+ownPixel px z r c = reverseOf (convertedOf Full px z r c .y) (convertedOf Full px z r c .u) (convertedOf Full px z r c .v)
 
 -- the factors of R32: "R = (256Y+403v)/256"
 abbrev pub RedNear : ℕ → ℕ → ℕ → ℕ → Type 0

@@ -1,9 +1,8 @@
 -- What either call answers, and what its output holds then, follow from the inputs. Assumes nothing.
 use Prim.Native.Nat.{ℕ}
-use mathlib.Core.Path.{_≡_}
+use mathlib.Core.Path.{_≡_, sym, _∙_}
 use mathlib.Core.List.{List, [], _∷_}
 use lib.ListN.{length}
-use Rattle.colour.specs.Colour.{reverseOf}
 use Rattle.lent.specs.declared.Answer.{Answer}
 use Rattle.lent.specs.Outcome.{answerOf, lentAfter}
 use Rattle.lent.proofs.Outcome.{outcome-unique}
@@ -26,5 +25,9 @@ module _ (y u v out : List ℕ) (rs qs : List (List ℕ)) where
     abbrev view-number : ℕ
     view-number = viewToRgbaNumberOf w (viewToRgbaCountOf w) (length y) (length u) (length v) (length out)
 
-    pub view-to-rgba-unique : ViewToRgbaOutcome reverseOf w y u v out r rs → ViewToRgbaOutcome reverseOf w y u v out q qs → (r ≡ q) × (rs ≡ qs)
-    view-to-rgba-unique = outcome-unique (λ (n : ℕ). answerOf n (viewToRgbaCountOf w)) (λ n. lentAfter n out (viewToRgbaOf reverseOf w y u v out) ∷ []) view-number r q rs qs
+    pub view-to-rgba-unique : (m : ℕ → ℕ → ℕ → List ℕ) → ViewToRgbaOutcome m w y u v out r rs → ViewToRgbaOutcome m w y u v out q qs → (r ≡ q) × (rs ≡ qs)
+    view-to-rgba-unique m = outcome-unique (λ (n : ℕ). answerOf n (viewToRgbaCountOf w)) (λ n. lentAfter n out (viewToRgbaOf m w y u v out) ∷ []) view-number r q rs qs
+
+    -- number and count are the same by every colour matrix
+    pub view-to-rgba-answer : (m m′ : ℕ → ℕ → ℕ → List ℕ) → ViewToRgbaOutcome m w y u v out r rs → ViewToRgbaOutcome m′ w y u v out q qs → r ≡ q
+    view-to-rgba-answer m m′ one other = one .answer ∙ sym (other .answer)

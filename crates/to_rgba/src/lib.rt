@@ -6,13 +6,18 @@
 ghost use mathlib.Core.Path.{_≡_};
 ghost use mathlib.Core.List.{[], _∷_};
 ghost use lib.ListN.{length};
-ghost use Rattle.colour.specs.Colour.{reverseOf};
+ghost use Prim.Native.Nat.{_+_, _*_};
+ghost use Rattle.colour.specs.Limited.{reverseBy};
+ghost use Rattle.colour.specs.Products.{Tables};
+ghost use Rattle.lent.specs.Paint.{painted, whole};
+ghost use Rattle.lent.specs.Pixels.{bytes};
 ghost use Rattle.to_rgba_rows.specs.Rules.{pixelAt, viewPixelAt, inBoth};
-ghost use Rattle.to_rgba_rows.specs.Fits.{PixelRowsFit};
+ghost use Rattle.to_rgba_rows.specs.Fits.{PixelRowsFit, ViewLinesFit};
 ghost use Rattle.to_rgba.specs.Pictured.{pictured, shifted};
 ghost use Rattle.to_rgba.specs.Picture.{clippedOf, filteredRowsOf, pixelsOf, toRgbaNumberOf, ToRgbaOutcome};
 ghost use Rattle.to_rgba.specs.View.{viewToRgbaNumberOf, ViewToRgbaOutcome};
 ghost use Rattle.to_rgba.specs.Fits.{ViewRowsFit};
+use colour::Matrix;
 use to_rgba_rows::picture_rows::Filtered;
 
 // A rectangle of a picture: right and bottom are exclusive.
@@ -168,8 +173,56 @@ pub fn to_rgba(
     }
 }
 
-// The h rows of a view, n pixels each, two at a time, since two rows share their chroma; luma and chroma are its strides.
+// At most two rows of a view from the even row `row` on, n pixels each, by the matrix. The tables are those of full range.
+fn put_lines(
+    matrix: Matrix,
+    out: &mut [u8],
+    y: &[u8],
+    u: &[u8],
+    v: &[u8],
+    luma: usize,
+    chroma: usize,
+    row: usize,
+    n: usize,
+    lines: usize,
+    rv: &colour::Table,
+    gu: &colour::Table,
+    gv: &colour::Table,
+    bu: &colour::Table,
+)
+    requires { ⌜ ViewLinesFit (length (now out)) (length (now y)) (length (now u)) (length (now v)) luma chroma row n lines ⌝ }
+    requires { ⌜ Tables (now rv) (now gu) (now gv) (now bu) ⌝ }
+    ensures { λ _. ⌜ now (out .exit) ≡ painted (4 * n) lines whole
+        (λ l. bytes (viewPixelAt (reverseBy matrix) luma chroma (now (y .entry)) (now (u .entry)) (now (v .entry)) (row + l)))
+        (now (out .entry)) ⌝ }
+{
+    match matrix {
+        Matrix::Full => {
+            to_rgba_rows::view_rows::view_lines(
+                out,
+                y,
+                u,
+                v,
+                luma,
+                chroma,
+                row,
+                n,
+                lines,
+                rv,
+                gu,
+                gv,
+                bu,
+            );
+        }
+        Matrix::Limited => {
+            to_rgba_rows::limited_rows::limited_lines(out, y, u, v, luma, chroma, row, n, lines);
+        }
+    }
+}
+
+// The h rows of a view, n pixels each, by the matrix, two at a time, since two rows share their chroma; luma and chroma are its strides.
 fn view_rows(
+    matrix: Matrix,
     out: &mut [u8],
     y: &[u8],
     u: &[u8],
@@ -181,7 +234,7 @@ fn view_rows(
 )
     requires { ⌜ ViewRowsFit (length (now out)) (length (now y)) (length (now u)) (length (now v)) luma chroma n h ⌝ }
     ensures { λ _. ⌜ now (out .exit) ≡ pictured n h
-        (viewPixelAt reverseOf luma chroma (now (y .entry)) (now (u .entry)) (now (v .entry))) (now (out .entry)) ⌝ }
+        (viewPixelAt (reverseBy matrix) luma chroma (now (y .entry)) (now (u .entry)) (now (v .entry))) (now (out .entry)) ⌝ }
 {
     let rv = colour::red_v();
     let gu = colour::green_u();
@@ -192,7 +245,8 @@ fn view_rows(
     while r < h {
         let start = r * wide;
         let lines = lent::least(h - r, 2);
-        to_rgba_rows::view_rows::view_lines(
+        put_lines(
+            matrix,
             &mut out[start..start + lines * wide],
             y,
             u,
@@ -233,9 +287,16 @@ fn view_to_rgba_number(
     0
 }
 
-// The view as RGBA. Ports `Yuv420Frame::to_rgba`.
-pub fn view_to_rgba(w: view::View, y: &[u8], u: &[u8], v: &[u8], out: &mut [u8]) -> lent::Answer
-    ensures { λ r. ⌜ ViewToRgbaOutcome reverseOf w (now (y .entry)) (now (u .entry)) (now (v .entry))
+// The view as RGBA, by the matrix. Ports `Yuv420Frame::to_rgba`, which has full range.
+pub fn view_to_rgba(
+    matrix: Matrix,
+    w: view::View,
+    y: &[u8],
+    u: &[u8],
+    v: &[u8],
+    out: &mut [u8],
+) -> lent::Answer
+    ensures { λ r. ⌜ ViewToRgbaOutcome (reverseBy matrix) w (now (y .entry)) (now (u .entry)) (now (v .entry))
         (now (out .entry)) r (now (out .exit) ∷ []) ⌝ }
 {
     let n = w.width as usize;
@@ -245,6 +306,6 @@ pub fn view_to_rgba(w: view::View, y: &[u8], u: &[u8], v: &[u8], out: &mut [u8])
     if number != 0 {
         return lent::Answer { number, count: 0 };
     }
-    view_rows(out, y, u, v, w.luma_stride, w.chroma_stride, n, h);
+    view_rows(matrix, out, y, u, v, w.luma_stride, w.chroma_stride, n, h);
     lent::Answer { number: 0, count }
 }

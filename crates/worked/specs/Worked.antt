@@ -1,4 +1,4 @@
--- The numbers worked by hand that are marked P (R130 to R132), and what each says.
+-- The numbers worked by hand that are marked P (R130 to R132, R135), and what each says.
 --   Line     a line of the table: one constructor for each kind
 --   Right l  what the line l says
 --   worked   the table
@@ -11,6 +11,7 @@ use mathlib.Core.Path.{_≡_}
 use Prim.Native.Nat.{ℕ, _-_}
 use lib.ListN.{replicate}
 use Rattle.colour.specs.Colour.{forwardOf, reverseOf, undoneOf}
+use Rattle.colour.specs.Limited.{limitedForwardOf, limitedReverseOf}
 use Rattle.picture.specs.declared.Size.{Size}
 use Rattle.view.specs.declared.View.{View}
 use Rattle.apply_main.specs.Main.{mainLuma, mainChroma}
@@ -19,6 +20,10 @@ use Rattle.apply_main.specs.Columns.{columnsTaken}
 pub data Line : Type 0 where
   -- "Colour, forward and back": r g b, then the y u v that it gives, then the r g b that this gives back
   colour : ℕ → ℕ → ℕ → ℕ → ℕ → ℕ → ℕ → ℕ → ℕ → Line
+  -- the same by limited range
+  limited : ℕ → ℕ → ℕ → ℕ → ℕ → ℕ → ℕ → ℕ → ℕ → Line
+  -- by limited range, of Y, U and V that no colour gives: y u v, then r g b
+  limitedBack : ℕ → ℕ → ℕ → ℕ → ℕ → ℕ → Line
   -- "Filter (a, s)": a and s, then the answer's value, and whether it was applied
   filter : ℕ → ℕ → ℕ → Bool → Line
   -- "Rectangles, 5x5 picture, 16x16 view": left, top, right, bottom, then the luma columns that each of the 16 rows takes from a main
@@ -36,6 +41,8 @@ view16 = record { width = 16; height = 16; «luma_stride» = 16; «chroma_stride
 
 abbrev pub Right : Line → Type 0
 Right (colour r g b y u v r′ g′ b′) = (forwardOf r g b ≡ record { y = y; u = u; v = v }) × (reverseOf y u v ≡ r′ ∷ g′ ∷ b′ ∷ 255 ∷ [])
+Right (limited r g b y u v r′ g′ b′) = (limitedForwardOf r g b ≡ record { y = y; u = u; v = v }) × (limitedReverseOf y u v ≡ r′ ∷ g′ ∷ b′ ∷ 255 ∷ [])
+Right (limitedBack y u v r g b) = limitedReverseOf y u v ≡ r ∷ g ∷ b ∷ 255 ∷ []
 Right (filter a s t applied) = undoneOf a s ≡ record { value = t; applied = applied }
 Right (rectangle left top right bottom luma chroma) =
     (columnsTaken 16 16 (mainLuma size5 view16 left top right bottom) ≡ luma)
@@ -53,6 +60,14 @@ worked =
     ∷ colour 255 0 0 53 99 255 252 0 0
     ∷ colour 0 255 0 182 29 12 0 254 0
     ∷ colour 0 0 255 17 255 116 0 0 252
+    -- the same in limited range, where Y below 16 is black too, and Y above 235 white
+    ∷ limited 0 0 0 16 128 128 0 0 0
+    ∷ limited 255 255 255 235 128 128 255 255 255
+    ∷ limited 255 0 0 82 90 240 255 1 0
+    ∷ limited 0 255 0 144 54 34 0 254 0
+    ∷ limited 0 0 255 41 240 110 0 0 255
+    ∷ limitedBack 0 128 128 0 0 0
+    ∷ limitedBack 255 128 128 255 255 255
     -- the filter: two edges, each with what is just kept and what is just replaced, and a t that is clamped and kept
     ∷ filter 100 329 100 false
     ∷ filter 100 330 70 true

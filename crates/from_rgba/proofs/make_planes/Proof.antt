@@ -15,32 +15,32 @@ convert-planes-requires c κs = c .before .before .before .before .before .befor
 put-edge-requires : tie.Need-put-edge-requires
 put-edge-requires c κs =
     let k = c .before .before .before .before .before .before .before in
-    rw (k .convert-planes .kept .1 .1 .1 .0) (k .before .before .before .before .before .before .before .before .pre .y-fits)
+    rw (k .convert-planes .kept .1 .1 .1 .1 .0) (k .before .before .before .before .before .before .before .before .pre .y-fits)
 
 finish-chroma-requires : tie.Need-finish-chroma-requires
 finish-chroma-requires c κs =
     let k = c .before .before .before .before .before .before .before .before .before .before .before in
-    rw (k .convert-planes .kept .1 .1 .1 .1 .0) (k .before .before .before .before .before .before .before .before .pre .u-fits)
+    rw (k .convert-planes .kept .1 .1 .1 .1 .1 .0) (k .before .before .before .before .before .before .before .before .pre .u-fits)
 
 finish-chroma-requires-2 : tie.Need-finish-chroma-requires-2
 finish-chroma-requires-2 c κs =
     let k = c .before .before .before .before .before .before .before .before .before .before .before .before .before .before .before in
-    rw (k .convert-planes .kept .1 .1 .1 .1 .1 .0) (k .before .before .before .before .before .before .before .before .pre .v-fits)
+    rw (k .convert-planes .kept .1 .1 .1 .1 .1 .1 .0) (k .before .before .before .before .before .before .before .before .pre .v-fits)
 
 same-length : tie.Need-same-length
 same-length c =
     let e = c .before .before .before .before .before .before .before .before .before .before in
-    e .put-edge .kept .1 .0 ∙ e .before .before .before .before .before .before .before .before .convert-planes .kept .1 .1 .1 .0
+    e .put-edge .kept .1 .0 ∙ e .before .before .before .before .before .before .before .before .convert-planes .kept .1 .1 .1 .1 .0
 
 same-length-2 : tie.Need-same-length-2
 same-length-2 c =
     let f = c .before .before .before .before .before .before in
-    f .finish-chroma .kept .1 .0 ∙ f .before .before .before .before .before .before .before .before .before .before .before .before .convert-planes .kept .1 .1 .1 .1 .0
+    f .finish-chroma .kept .1 .0 ∙ f .before .before .before .before .before .before .before .before .before .before .before .before .convert-planes .kept .1 .1 .1 .1 .1 .0
 
 same-length-3 : tie.Need-same-length-3
 same-length-3 c =
     let f = c .before .before in
-    f .finish-chroma2 .kept .1 .0 ∙ f .before .before .before .before .before .before .before .before .before .before .before .before .before .before .before .before .convert-planes .kept .1 .1 .1 .1 .1 .0
+    f .finish-chroma2 .kept .1 .0 ∙ f .before .before .before .before .before .before .before .before .before .before .before .before .before .before .before .before .convert-planes .kept .1 .1 .1 .1 .1 .1 .0
 
 returns : tie.Need-returns
 returns c =
@@ -56,10 +56,10 @@ returns c =
     let h = rowsOf z in
     let edge = edge-local z (a .edge) in
     let both = local-after w h averaged (withEdge (a .edge) z) (average-local z) edge in (
-      gone-over w h (withEdge (a .edge) z) (lumaPlane z px) (a .y .now) edge (s .pre .y-fits) (k .convert-planes .ensures .0) (e .put-edge .ensures),
+      gone-over w h (withEdge (a .edge) z) (lumaPlane (a .matrix) z px) (a .y .now) edge (s .pre .y-fits) (k .convert-planes .ensures .0) (e .put-edge .ensures),
       (
-        gone-over w h (λ p. averaged (withEdge (a .edge) z p)) (chromaUPlane z px) (a .u .now) both (s .pre .u-fits) (k .convert-planes .ensures .1 .0) (f₁ .finish-chroma .ensures),
-        gone-over w h (λ p. averaged (withEdge (a .edge) z p)) (chromaVPlane z px) (a .v .now) both (s .pre .v-fits) (k .convert-planes .ensures .1 .1) (f₂ .finish-chroma2 .ensures),
+        gone-over w h (λ p. averaged (withEdge (a .edge) z p)) (chromaUPlane (a .matrix) z px) (a .u .now) both (s .pre .u-fits) (k .convert-planes .ensures .1 .0) (f₁ .finish-chroma .ensures),
+        gone-over w h (λ p. averaged (withEdge (a .edge) z p)) (chromaVPlane (a .matrix) z px) (a .v .now) both (s .pre .v-fits) (k .convert-planes .ensures .1 .1) (f₂ .finish-chroma2 .ensures),
       ),
     )
 

@@ -35,13 +35,13 @@ abbrev made : tie.After-slice-known6 → tie.After-make-planes
 made c = c .before .before .before .before .before .before
 
 same-length : tie.Need-same-length
-same-length c = made c .make-planes .kept .1 .1 .1 .0
+same-length c = made c .make-planes .kept .1 .1 .1 .1 .0
 
 same-length-2 : tie.Need-same-length-2
-same-length-2 c = made c .make-planes .kept .1 .1 .1 .1 .0
+same-length-2 c = made c .make-planes .kept .1 .1 .1 .1 .1 .0
 
 same-length-3 : tie.Need-same-length-3
-same-length-3 c = made c .make-planes .kept .1 .1 .1 .1 .1 .0
+same-length-3 c = made c .make-planes .kept .1 .1 .1 .1 .1 .1 .0
 
 returns-2 : tie.Need-returns-2
 unfolding fromBuffersOf

@@ -54,12 +54,12 @@ long k = sym (k .before .map-short .ensures) ∙ k .if1 .left
 
 -- that call, by the number of this one
 run : (n : tie.After-with-edge) → let s = start (tested n .before) in let a = s .args in
-    Outcome (answerOf (number s) 0) (madeBuffersOf (number s) (a .edge) (a .rgba .now) (a .size) (a .y .now) (a .u .now) (a .v .now))
-    (n .with-edge .result) (n .with-edge .last .1 .1 .1 .0 ∷ n .with-edge .last .1 .1 .1 .1 .0 ∷ n .with-edge .last .1 .1 .1 .1 .1 .0 ∷ [])
+    Outcome (answerOf (number s) 0) (madeBuffersOf (number s) (a .matrix) (a .edge) (a .rgba .now) (a .size) (a .y .now) (a .u .now) (a .v .now))
+    (n .with-edge .result) (n .with-edge .last .1 .1 .1 .1 .0 ∷ n .with-edge .last .1 .1 .1 .1 .1 .0 ∷ n .with-edge .last .1 .1 .1 .1 .1 .1 .0 ∷ [])
 unfolding fromBuffersOf
 run n =
     let a = start (tested n .before) .args in
-    renumbered 0 (λ k. madeBuffersOf k (a .edge) (a .rgba .now) (a .size) (a .y .now) (a .u .now) (a .v .now))
+    renumbered 0 (λ k. madeBuffersOf k (a .matrix) (a .edge) (a .rgba .now) (a .size) (a .y .now) (a .u .now) (a .v .now))
     (map-from-planes (a .size) (length (a .rgba .now)) _ _ _ (length (a .map .now)) (long (tested n))) (n .with-edge .ensures)
 
 same-length : tie.Need-same-length

@@ -1,5 +1,5 @@
 -- `to_rgba::view_rows` meets its contract. The invariant: the first r rows of the output are written, and those that are to come start at an
--- even row.
+-- even row. The walk is one for every matrix.
 -- Assumes nothing.
 use Prim.Native.Nat.{ℕ, _+_, _*_, _/_, _%_, _-_, _≤_, _<_}
 use native.Mathlib.Nat.{add-mul, mul-le-mul-right}
@@ -7,7 +7,7 @@ use native.Mathlib.Omega.{arith}
 use mathlib.Core.Path.{_≡_, refl, _∙_}
 use borrow.Author.Needs.{needs}
 use lib.ListN.{length}
-use Rattle.colour.specs.Colour.{reverseOf}
+use Rattle.colour.specs.Limited.{reverseBy}
 use Rattle.colour.specs.Products.{Tables}
 use Rattle.lent.proofs.ByPart.{part-long}
 use Rattle.lent.proofs.Cells.{row-in}
@@ -18,11 +18,11 @@ use Rattle.to_rgba.proofs.view_rows.Statement.{statement}
 use Rattle.to_rgba.proofs.view_rows.Tie as tie
 
 abbrev Inv-loop : tie.InvT-loop
-Inv-loop out₀ y u v luma chroma n h rv gu gv bu wide r₀ out r =
-    (r ≤ h) × (r < h → r % 2 ≡ 0) × (length out ≡ length out₀) × (out ≡ picturedTo r n h (viewPixelAt reverseOf luma chroma y u v) out₀)
+Inv-loop matrix out₀ y u v luma chroma n h rv gu gv bu wide r₀ out r =
+    (r ≤ h) × (r < h → r % 2 ≡ 0) × (length out ≡ length out₀) × (out ≡ picturedTo r n h (viewPixelAt (reverseBy matrix) luma chroma y u v) out₀)
 
 abbrev μ-loop : tie.MeasureT-loop
-μ-loop out₀ y u v luma chroma n h rv gu gv bu wide r₀ out r = h - r
+μ-loop matrix out₀ y u v luma chroma n h rv gu gv bu wide r₀ out r = h - r
 
 -- the rows that are written are within the output
 room : (l : tie.At-loop Inv-loop μ-loop) (lines : ℕ) → let s = l .before .before .before .before .before .before .before .before .before in
@@ -68,23 +68,23 @@ sub-least c = omega arith
 least-requires : tie.Need-least-requires Inv-loop μ-loop
 least-requires c κs = search needs
 
-mul-view-lines : tie.Need-mul-view-lines Inv-loop μ-loop
-mul-view-lines c = omega (arith, room (c .before .before) (c .least .result) (omega arith))
+mul-put-lines : tie.Need-mul-put-lines Inv-loop μ-loop
+mul-put-lines c = omega (arith, room (c .before .before) (c .least .result) (omega arith))
 
-add-view-lines : tie.Need-add-view-lines Inv-loop μ-loop
-add-view-lines c = omega (arith, room (c .before .before) (c .least .result) (omega arith))
+add-put-lines : tie.Need-add-put-lines Inv-loop μ-loop
+add-put-lines c = omega (arith, room (c .before .before) (c .least .result) (omega arith))
 
-sub-view-lines : tie.Need-sub-view-lines Inv-loop μ-loop
-sub-view-lines c = omega arith
+sub-put-lines : tie.Need-sub-put-lines Inv-loop μ-loop
+sub-put-lines c = omega arith
 
-part-view-lines-start : tie.Need-part-view-lines-start Inv-loop μ-loop
-part-view-lines-start c = search needs
+part-put-lines-start : tie.Need-part-put-lines-start Inv-loop μ-loop
+part-put-lines-start c = search needs
 
-part-view-lines-end : tie.Need-part-view-lines-end Inv-loop μ-loop
-part-view-lines-end c = omega (arith, room (c .before .before) (c .least .result) (omega arith))
+part-put-lines-end : tie.Need-part-put-lines-end Inv-loop μ-loop
+part-put-lines-end c = omega (arith, room (c .before .before) (c .least .result) (omega arith))
 
-view-lines-requires : tie.Need-view-lines-requires Inv-loop μ-loop
-view-lines-requires c κs =
+put-lines-requires : tie.Need-put-lines-requires Inv-loop μ-loop
+put-lines-requires c κs =
     let call = c .before .before .before .before .before in
     let l = call .before .before in
     let s = l .before .before .before .before .before .before .before .before .before in
@@ -127,7 +127,7 @@ loop-again c =
       omega arith,
       λ lt. omega arith,
       search needs,
-      pictured-lines _ _ _ _ (l .loop .r) (call .least .result) _ _ (omega arith) (omega arith) refl refl (l .loop .inv .3) (p .view-lines .ensures) refl,
+      pictured-lines _ _ _ _ (l .loop .r) (call .least .result) _ _ (omega arith) (omega arith) refl refl (l .loop .inv .3) (p .put-lines .ensures) refl,
     )
 
 same-length : tie.Need-same-length Inv-loop μ-loop
@@ -151,12 +151,12 @@ view-rows-spec =
     mul-start
     sub-least
     least-requires
-    mul-view-lines
-    add-view-lines
-    sub-view-lines
-    part-view-lines-start
-    part-view-lines-end
-    view-lines-requires
+    mul-put-lines
+    add-put-lines
+    sub-put-lines
+    part-put-lines-start
+    part-put-lines-end
+    put-lines-requires
     add-r
     loop-less
     loop-again

@@ -22,17 +22,17 @@ forward-rows-requires c κs = search needs
 same-length : tie.Need-same-length
 same-length c =
     let f = c .before .before .before .before .before .before in
-    f .forward-rows .kept .1 .1 .1 .0 ∙ f .before .before .before .before .before .before .before .before .before .before .before .before .before .before .pad-plane .kept .0
+    f .forward-rows .kept .1 .1 .1 .1 .0 ∙ f .before .before .before .before .before .before .before .before .before .before .before .before .before .before .pad-plane .kept .0
 
 same-length-2 : tie.Need-same-length-2
 same-length-2 c =
     let f = c .before .before .before .before .before .before in
-    f .forward-rows .kept .1 .1 .1 .1 .0 ∙ f .before .before .before .before .before .before .before .before .before .before .pad-plane2 .kept .0
+    f .forward-rows .kept .1 .1 .1 .1 .1 .0 ∙ f .before .before .before .before .before .before .before .before .before .before .pad-plane2 .kept .0
 
 same-length-3 : tie.Need-same-length-3
 same-length-3 c =
     let f = c .before .before .before .before .before .before in
-    f .forward-rows .kept .1 .1 .1 .1 .1 .0 ∙ f .before .before .before .before .before .before .pad-plane3 .kept .0
+    f .forward-rows .kept .1 .1 .1 .1 .1 .1 .0 ∙ f .before .before .before .before .before .before .pad-plane3 .kept .0
 
 returns : tie.Need-returns
 returns c =
@@ -43,10 +43,10 @@ returns c =
     let a = p₁ .before .before .before .before .before .before .args in
     let px = a .rgba .now in
     let e = f .forward-rows .ensures in (
-      padded-plane (a .width) (a .height) 0 (λ r k. inputAt px (a .width) r k .y) (a .y .now) (p₁ .pad-plane .ensures) (e .0),
+      padded-plane (a .width) (a .height) 0 (λ r k. inputAt (a .matrix) px (a .width) r k .y) (a .y .now) (p₁ .pad-plane .ensures) (e .0),
       (
-        padded-plane (a .width) (a .height) 128 (λ r k. inputAt px (a .width) r k .u) (a .u .now) (p₂ .pad-plane2 .ensures) (e .1 .0),
-        padded-plane (a .width) (a .height) 128 (λ r k. inputAt px (a .width) r k .v) (a .v .now) (p₃ .pad-plane3 .ensures) (e .1 .1),
+        padded-plane (a .width) (a .height) 128 (λ r k. inputAt (a .matrix) px (a .width) r k .u) (a .u .now) (p₂ .pad-plane2 .ensures) (e .1 .0),
+        padded-plane (a .width) (a .height) 128 (λ r k. inputAt (a .matrix) px (a .width) r k .v) (a .v .now) (p₃ .pad-plane3 .ensures) (e .1 .1),
       ),
     )
 

@@ -11,26 +11,26 @@ use Rattle.from_rgba.proofs.rows.forward_16.Statement.{statement}
 use Rattle.from_rgba.proofs.rows.forward_16.Tie as tie
 
 abbrev Inv-loop : tie.InvT-loop
-Inv-loop y₀ u₀ v₀ r g b i₀ y u v i =
-    (i ≤ 16) × SoFar (λ k. colourApart r g b k .y) y₀ y i × SoFar (λ k. colourApart r g b k .u) u₀ u i × SoFar (λ k. colourApart r g b k .v) v₀ v i
+Inv-loop m y₀ u₀ v₀ r g b i₀ y u v i =
+    (i ≤ 16) × SoFar (λ k. colourApart m r g b k .y) y₀ y i × SoFar (λ k. colourApart m r g b k .u) u₀ u i × SoFar (λ k. colourApart m r g b k .v) v₀ v i
 
 abbrev μ-loop : tie.MeasureT-loop
-μ-loop y₀ u₀ v₀ r g b i₀ y u v i = 16 - i
+μ-loop m y₀ u₀ v₀ r g b i₀ y u v i = 16 - i
 
 loop-holds : tie.Need-loop-holds Inv-loop μ-loop
 loop-holds c = (omega arith, so-far-none _ _, so-far-none _ _, so-far-none _ _)
 
-element-copy-out-forward : tie.Need-element-copy-out-forward Inv-loop μ-loop
-element-copy-out-forward c = omega arith
+element-copy-out-forward-by : tie.Need-element-copy-out-forward-by Inv-loop μ-loop
+element-copy-out-forward-by c = omega arith
 
-element-copy-out-forward-2 : tie.Need-element-copy-out-forward-2 Inv-loop μ-loop
-element-copy-out-forward-2 c = omega arith
+element-copy-out-forward-by-2 : tie.Need-element-copy-out-forward-by-2 Inv-loop μ-loop
+element-copy-out-forward-by-2 c = omega arith
 
-element-copy-out-forward-3 : tie.Need-element-copy-out-forward-3 Inv-loop μ-loop
-element-copy-out-forward-3 c = omega arith
+element-copy-out-forward-by-3 : tie.Need-element-copy-out-forward-by-3 Inv-loop μ-loop
+element-copy-out-forward-by-3 c = omega arith
 
-forward-requires : tie.Need-forward-requires Inv-loop μ-loop
-forward-requires c κs = search needs
+forward-by-requires : tie.Need-forward-by-requires Inv-loop μ-loop
+forward-by-requires c κs = search needs
 
 element-write-y : tie.Need-element-write-y Inv-loop μ-loop
 element-write-y c = omega arith
@@ -50,7 +50,7 @@ loop-less c = omega arith
 loop-again : tie.Need-loop-again Inv-loop μ-loop
 loop-again c =
     let l = c .before .before .before .before .before in
-    let p = c .forward .ensures in (
+    let p = c .forward-by .ensures in (
       omega arith,
       so-far-more _ _ (l .loop .i) (l .loop .inv .1) (omega arith) (ap (λ (q : Yuv). q .y) p),
       so-far-more _ _ (l .loop .i) (l .loop .inv .2) (omega arith) (ap (λ (q : Yuv). q .u) p),
@@ -69,10 +69,10 @@ forward-16-spec =
     Inv-loop
     μ-loop
     loop-holds
-    element-copy-out-forward
-    element-copy-out-forward-2
-    element-copy-out-forward-3
-    forward-requires
+    element-copy-out-forward-by
+    element-copy-out-forward-by-2
+    element-copy-out-forward-by-3
+    forward-by-requires
     element-write-y
     element-write-u
     element-write-v

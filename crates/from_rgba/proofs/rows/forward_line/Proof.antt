@@ -63,29 +63,29 @@ same-length : tie.Need-same-length
 same-length c =
     let r = c .before .before .before .before .before .before in
     let a = r .before .before .before .before .before .before .before .before .before .args in
-    same-len-mid (a .line) (a .line + a .n - a .line) (a .y .now) (r .forward-row .last .1 .0) (r .forward-row .kept .1 .0)
+    same-len-mid (a .line) (a .line + a .n - a .line) (a .y .now) (r .forward-row .last .1 .1 .0) (r .forward-row .kept .1 .1 .0)
 
 same-length-2 : tie.Need-same-length-2
 same-length-2 c =
     let r = c .before .before .before .before .before .before in
     let a = r .before .before .before .before .before .before .before .before .before .args in
-    same-len-mid (a .line) (a .line + a .n - a .line) (a .u .now) (r .forward-row .last .1 .1 .0) (r .forward-row .kept .1 .1 .0)
+    same-len-mid (a .line) (a .line + a .n - a .line) (a .u .now) (r .forward-row .last .1 .1 .1 .0) (r .forward-row .kept .1 .1 .1 .0)
 
 same-length-3 : tie.Need-same-length-3
 same-length-3 c =
     let r = c .before .before .before .before .before .before in
     let a = r .before .before .before .before .before .before .before .before .before .args in
-    same-len-mid (a .line) (a .line + a .n - a .line) (a .v .now) (r .forward-row .last .1 .1 .1 .0) (r .forward-row .kept .1 .1 .1 .0)
+    same-len-mid (a .line) (a .line + a .n - a .line) (a .v .now) (r .forward-row .last .1 .1 .1 .1 .0) (r .forward-row .kept .1 .1 .1 .1 .0)
 
 returns : tie.Need-returns
 returns c =
     let r = c .before .before .before .before .before .before in
     let a = r .before .before .before .before .before .before .before .before .before .args in
     let e = r .forward-row .ensures in (
-      line-back (a .rgba .now) (a .y .now) (a .at) (a .n) (a .line) (λ p. p .y) (e .0),
+      line-back (a .matrix) (a .rgba .now) (a .y .now) (a .at) (a .n) (a .line) (λ p. p .y) (e .0),
       (
-        line-back (a .rgba .now) (a .u .now) (a .at) (a .n) (a .line) (λ p. p .u) (e .1 .0),
-        line-back (a .rgba .now) (a .v .now) (a .at) (a .n) (a .line) (λ p. p .v) (e .1 .1),
+        line-back (a .matrix) (a .rgba .now) (a .u .now) (a .at) (a .n) (a .line) (λ p. p .u) (e .1 .0),
+        line-back (a .matrix) (a .rgba .now) (a .v .now) (a .at) (a .n) (a .line) (λ p. p .v) (e .1 .1),
       ),
     )
 

@@ -22,7 +22,11 @@ put-16-requires-2 : tie.Need-put-16-requires-2
 put-16-requires-2 c κs = search needs
 
 put-16-requires-3 : tie.Need-put-16-requires-3
-put-16-requires-3 c κs = search needs
+put-16-requires-3 c κs =
+    let f = c .before .before .before .before .before .before .before .before .before .before .before .before in
+    let t = f .before .before .before .before .before .before .before in
+    let s = t .before .before .before .before .before .before .before .before in
+    s .pre .0 .same-v ∙ s .pre .1
 
 same-length : tie.Need-same-length
 same-length c =
@@ -46,10 +50,10 @@ returns c =
     let a = s .args in
     let rgb = t .apart .ensures in
     let yuv = f .forward-16 .ensures in (
-      apart-back (a .pixels .now) _ _ _ _ (a .y .now) 16 (λ q. q .y) refl refl refl refl (s .pre .1) (rgb .0) (rgb .1 .0) (rgb .1 .1) (yuv .0) (y .put-16 .ensures),
+      apart-back (a .matrix) (a .pixels .now) _ _ _ _ (a .y .now) 16 (λ q. q .y) refl refl refl refl (s .pre .1) (rgb .0) (rgb .1 .0) (rgb .1 .1) (yuv .0) (y .put-16 .ensures),
       (
-        apart-back (a .pixels .now) _ _ _ _ (a .u .now) 16 (λ q. q .u) refl refl refl refl (s .pre .0 .same-u ∙ s .pre .1) (rgb .0) (rgb .1 .0) (rgb .1 .1) (yuv .1 .0) (u .put-162 .ensures),
-        apart-back (a .pixels .now) _ _ _ _ (a .v .now) 16 (λ q. q .v) refl refl refl refl (s .pre .0 .same-v ∙ s .pre .1) (rgb .0) (rgb .1 .0) (rgb .1 .1) (yuv .1 .1) (v .put-163 .ensures),
+        apart-back (a .matrix) (a .pixels .now) _ _ _ _ (a .u .now) 16 (λ q. q .u) refl refl refl refl (s .pre .0 .same-u ∙ s .pre .1) (rgb .0) (rgb .1 .0) (rgb .1 .1) (yuv .1 .0) (u .put-162 .ensures),
+        apart-back (a .matrix) (a .pixels .now) _ _ _ _ (a .v .now) 16 (λ q. q .v) refl refl refl refl (s .pre .0 .same-v ∙ s .pre .1) (rgb .0) (rgb .1 .0) (rgb .1 .1) (yuv .1 .1) (v .put-163 .ensures),
       ),
     )
 

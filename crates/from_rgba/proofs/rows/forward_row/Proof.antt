@@ -13,11 +13,11 @@ use Rattle.from_rgba.proofs.rows.forward_row.Statement.{statement}
 use Rattle.from_rgba.proofs.rows.forward_row.Tie as tie
 
 abbrev Inv-loop : tie.InvT-loop
-Inv-loop pixels y₀ u₀ v₀ full k₀ y u v k =
-    (k % 16 ≡ 0) × (k ≤ full) × SoFar (λ j. colourAt pixels j .y) y₀ y k × SoFar (λ j. colourAt pixels j .u) u₀ u k × SoFar (λ j. colourAt pixels j .v) v₀ v k
+Inv-loop m pixels y₀ u₀ v₀ full k₀ y u v k =
+    (k % 16 ≡ 0) × (k ≤ full) × SoFar (λ j. colourAt m pixels j .y) y₀ y k × SoFar (λ j. colourAt m pixels j .u) u₀ u k × SoFar (λ j. colourAt m pixels j .v) v₀ v k
 
 abbrev μ-loop : tie.MeasureT-loop
-μ-loop pixels y₀ u₀ v₀ full k₀ y u v k = full - k
+μ-loop m pixels y₀ u₀ v₀ full k₀ y u v k = full - k
 
 mul-full : tie.Need-mul-full Inv-loop μ-loop
 mul-full c = omega arith
@@ -96,9 +96,9 @@ loop-again c =
     let e = call .forward-part .ensures in (
       more .0,
       more .1,
-      pixels-turn px (a .y .now) _ (λ p. p .y) refl (s .pre .pixels) (l .loop .k) (l .loop .inv .0) (i .loop-test .taken) (l .loop .inv .2) (e .0),
-      pixels-turn px (a .u .now) _ (λ p. p .u) (s .pre .same-u) (s .pre .pixels) (l .loop .k) (l .loop .inv .0) (i .loop-test .taken) (l .loop .inv .3) (e .1 .0),
-      pixels-turn px (a .v .now) _ (λ p. p .v) (s .pre .same-v) (s .pre .pixels) (l .loop .k) (l .loop .inv .0) (i .loop-test .taken) (l .loop .inv .4) (e .1 .1),
+      pixels-turn (a .matrix) px (a .y .now) _ (λ p. p .y) refl (s .pre .pixels) (l .loop .k) (l .loop .inv .0) (i .loop-test .taken) (l .loop .inv .2) (e .0),
+      pixels-turn (a .matrix) px (a .u .now) _ (λ p. p .u) (s .pre .same-u) (s .pre .pixels) (l .loop .k) (l .loop .inv .0) (i .loop-test .taken) (l .loop .inv .3) (e .1 .0),
+      pixels-turn (a .matrix) px (a .v .now) _ (λ p. p .v) (s .pre .same-v) (s .pre .pixels) (l .loop .k) (l .loop .inv .0) (i .loop-test .taken) (l .loop .inv .4) (e .1 .1),
     )
 
 mul-forward-tail : tie.Need-mul-forward-tail Inv-loop μ-loop
@@ -152,21 +152,21 @@ same-length c =
     let t = c .before .before .before .before .before .before in
     let l = t .before .before .before .before .before .before in
     let full : ℕ = length (l .before .before .before .before .before .args .y .now) / 16 * 16 in
-    same-len-mid full (length (l .loop .y) - full) (l .loop .y) (t .forward-tail .last .1 .0) (t .forward-tail .kept .1 .0) ∙ l .loop .inv .2 .0
+    same-len-mid full (length (l .loop .y) - full) (l .loop .y) (t .forward-tail .last .1 .1 .0) (t .forward-tail .kept .1 .1 .0) ∙ l .loop .inv .2 .0
 
 same-length-2 : tie.Need-same-length-2 Inv-loop μ-loop
 same-length-2 c =
     let t = c .before .before .before .before .before .before in
     let l = t .before .before .before .before .before .before in
     let full : ℕ = length (l .before .before .before .before .before .args .y .now) / 16 * 16 in
-    same-len-mid full (length (l .loop .u) - full) (l .loop .u) (t .forward-tail .last .1 .1 .0) (t .forward-tail .kept .1 .1 .0) ∙ l .loop .inv .3 .0
+    same-len-mid full (length (l .loop .u) - full) (l .loop .u) (t .forward-tail .last .1 .1 .1 .0) (t .forward-tail .kept .1 .1 .1 .0) ∙ l .loop .inv .3 .0
 
 same-length-3 : tie.Need-same-length-3 Inv-loop μ-loop
 same-length-3 c =
     let t = c .before .before .before .before .before .before in
     let l = t .before .before .before .before .before .before in
     let full : ℕ = length (l .before .before .before .before .before .args .y .now) / 16 * 16 in
-    same-len-mid full (length (l .loop .v) - full) (l .loop .v) (t .forward-tail .last .1 .1 .1 .0) (t .forward-tail .kept .1 .1 .1 .0) ∙ l .loop .inv .4 .0
+    same-len-mid full (length (l .loop .v) - full) (l .loop .v) (t .forward-tail .last .1 .1 .1 .1 .0) (t .forward-tail .kept .1 .1 .1 .1 .0) ∙ l .loop .inv .4 .0
 
 returns : tie.Need-returns Inv-loop μ-loop
 returns c =
@@ -178,10 +178,10 @@ returns c =
     let px = a .pixels .now in
     let full : ℕ = length (a .y .now) / 16 * 16 in
     let e = t .forward-tail .ensures in (
-      pixels-rest px (a .y .now) _ (λ p. p .y) refl (s .pre .pixels) (l .loop .k) full refl (l .loop .inv .1) (i .loop-test .left) (l .loop .inv .2) (e .0),
+      pixels-rest (a .matrix) px (a .y .now) _ (λ p. p .y) refl (s .pre .pixels) (l .loop .k) full refl (l .loop .inv .1) (i .loop-test .left) (l .loop .inv .2) (e .0),
       (
-        pixels-rest px (a .u .now) _ (λ p. p .u) (s .pre .same-u) (s .pre .pixels) (l .loop .k) full refl (l .loop .inv .1) (i .loop-test .left) (l .loop .inv .3) (e .1 .0),
-        pixels-rest px (a .v .now) _ (λ p. p .v) (s .pre .same-v) (s .pre .pixels) (l .loop .k) full refl (l .loop .inv .1) (i .loop-test .left) (l .loop .inv .4) (e .1 .1),
+        pixels-rest (a .matrix) px (a .u .now) _ (λ p. p .u) (s .pre .same-u) (s .pre .pixels) (l .loop .k) full refl (l .loop .inv .1) (i .loop-test .left) (l .loop .inv .3) (e .1 .0),
+        pixels-rest (a .matrix) px (a .v .now) _ (λ p. p .v) (s .pre .same-v) (s .pre .pixels) (l .loop .k) full refl (l .loop .inv .1) (i .loop-test .left) (l .loop .inv .4) (e .1 .1),
       ),
     )
 

@@ -10,6 +10,7 @@ use lib.ListN.{length}
 use Rattle.lent.specs.Paint.{painted}
 use Rattle.lent.specs.Sizes.{roundUp}
 use Rattle.lent.proofs.Cells.{row-in}
+use Rattle.colour.specs.declared.Matrix.{Matrix}
 use Rattle.colour.specs.declared.Yuv.{Yuv}
 use Rattle.from_rgba.specs.Rows.{colourAt, inputAt, inside, lineOf, LineFits}
 use Rattle.from_rgba.proofs.Converted.{RowsSoFar, rows-so-far-none, rows-so-far-next, rows-so-far-all, part-colour, pixels-in}
@@ -17,13 +18,13 @@ use Rattle.from_rgba.proofs.rows.forward_rows.Statement.{statement}
 use Rattle.from_rgba.proofs.rows.forward_rows.Tie as tie
 
 abbrev Inv-loop : tie.InvT-loop
-Inv-loop rgba width height y₀ u₀ v₀ stride n m row₀ y u v row =
-    RowsSoFar stride (roundUp 16 height) width height (λ r c. inputAt rgba width r c .y) y₀ y row
-    × RowsSoFar stride (roundUp 16 height) width height (λ r c. inputAt rgba width r c .u) u₀ u row
-    × RowsSoFar stride (roundUp 16 height) width height (λ r c. inputAt rgba width r c .v) v₀ v row
+Inv-loop x rgba width height y₀ u₀ v₀ stride n m row₀ y u v row =
+    RowsSoFar stride (roundUp 16 height) width height (λ r c. inputAt x rgba width r c .y) y₀ y row
+    × RowsSoFar stride (roundUp 16 height) width height (λ r c. inputAt x rgba width r c .u) u₀ u row
+    × RowsSoFar stride (roundUp 16 height) width height (λ r c. inputAt x rgba width r c .v) v₀ v row
 
 abbrev μ-loop : tie.MeasureT-loop
-μ-loop rgba width height y₀ u₀ v₀ stride n m row₀ y u v row = height - row
+μ-loop x rgba width height y₀ u₀ v₀ stride n m row₀ y u v row = height - row
 
 round-up-16-requires : tie.Need-round-up-16-requires Inv-loop μ-loop
 round-up-16-requires c κs = search needs
@@ -80,8 +81,8 @@ loop-less : tie.Need-loop-less Inv-loop μ-loop
 loop-less c = omega arith
 
 -- a pixel of the row's part is the input's
-pixel : (px : List ℕ) (width row j : ℕ) → j < width → colourAt (lineOf px (4 * (row * width)) width) j ≡ inputAt px width row j
-pixel px width row j h = part-colour px (row * width) (4 * (row * width)) (4 * width) j refl (omega arith)
+pixel : (m : Matrix) (px : List ℕ) (width row j : ℕ) → j < width → colourAt m (lineOf px (4 * (row * width)) width) j ≡ inputAt m px width row j
+pixel m px width row j h = part-colour m px (row * width) (4 * (row * width)) (4 * width) j refl (omega arith)
 
 loop-again : tie.Need-loop-again Inv-loop μ-loop
 loop-again c =
@@ -93,9 +94,9 @@ loop-again c =
     let px = a .rgba .now in
     let lt = i .loop-test .taken in
     let e = called .forward-line .ensures in (
-      rows-so-far-next _ _ (a .width) (a .height) _ _ (l .loop .row) _ (fits st .0) (narrow st) (omega arith) lt (λ j h. ap (λ (p : Yuv). p .y) (pixel px (a .width) (l .loop .row) j h)) (l .loop .inv .0) (e .0),
-      rows-so-far-next _ _ (a .width) (a .height) _ _ (l .loop .row) _ (fits st .1) (narrow st) (omega arith) lt (λ j h. ap (λ (p : Yuv). p .u) (pixel px (a .width) (l .loop .row) j h)) (l .loop .inv .1) (e .1 .0),
-      rows-so-far-next _ _ (a .width) (a .height) _ _ (l .loop .row) _ (fits st .2) (narrow st) (omega arith) lt (λ j h. ap (λ (p : Yuv). p .v) (pixel px (a .width) (l .loop .row) j h)) (l .loop .inv .2) (e .1 .1),
+      rows-so-far-next _ _ (a .width) (a .height) _ _ (l .loop .row) _ (fits st .0) (narrow st) (omega arith) lt (λ j h. ap (λ (p : Yuv). p .y) (pixel (a .matrix) px (a .width) (l .loop .row) j h)) (l .loop .inv .0) (e .0),
+      rows-so-far-next _ _ (a .width) (a .height) _ _ (l .loop .row) _ (fits st .1) (narrow st) (omega arith) lt (λ j h. ap (λ (p : Yuv). p .u) (pixel (a .matrix) px (a .width) (l .loop .row) j h)) (l .loop .inv .1) (e .1 .0),
+      rows-so-far-next _ _ (a .width) (a .height) _ _ (l .loop .row) _ (fits st .2) (narrow st) (omega arith) lt (λ j h. ap (λ (p : Yuv). p .v) (pixel (a .matrix) px (a .width) (l .loop .row) j h)) (l .loop .inv .2) (e .1 .1),
     )
 
 same-length : tie.Need-same-length Inv-loop μ-loop
@@ -115,10 +116,10 @@ returns c =
     let px = a .rgba .now in
     let width = st .round-up-16 .ensures in
     let end = c .loop-test .left in (
-      rows-so-far-all _ _ (a .width) (a .height) _ _ (l .loop .row) (l .loop .inv .0) end ∙ ap (λ (w : ℕ). painted w (roundUp 16 (a .height)) (inside (a .width) (a .height)) (λ r k. inputAt px (a .width) r k .y) (a .y .now)) width,
+      rows-so-far-all _ _ (a .width) (a .height) _ _ (l .loop .row) (l .loop .inv .0) end ∙ ap (λ (w : ℕ). painted w (roundUp 16 (a .height)) (inside (a .width) (a .height)) (λ r k. inputAt (a .matrix) px (a .width) r k .y) (a .y .now)) width,
       (
-        rows-so-far-all _ _ (a .width) (a .height) _ _ (l .loop .row) (l .loop .inv .1) end ∙ ap (λ (w : ℕ). painted w (roundUp 16 (a .height)) (inside (a .width) (a .height)) (λ r k. inputAt px (a .width) r k .u) (a .u .now)) width,
-        rows-so-far-all _ _ (a .width) (a .height) _ _ (l .loop .row) (l .loop .inv .2) end ∙ ap (λ (w : ℕ). painted w (roundUp 16 (a .height)) (inside (a .width) (a .height)) (λ r k. inputAt px (a .width) r k .v) (a .v .now)) width,
+        rows-so-far-all _ _ (a .width) (a .height) _ _ (l .loop .row) (l .loop .inv .1) end ∙ ap (λ (w : ℕ). painted w (roundUp 16 (a .height)) (inside (a .width) (a .height)) (λ r k. inputAt (a .matrix) px (a .width) r k .u) (a .u .now)) width,
+        rows-so-far-all _ _ (a .width) (a .height) _ _ (l .loop .row) (l .loop .inv .2) end ∙ ap (λ (w : ℕ). painted w (roundUp 16 (a .height)) (inside (a .width) (a .height)) (λ r k. inputAt (a .matrix) px (a .width) r k .v) (a .v .now)) width,
       ),
     )
 

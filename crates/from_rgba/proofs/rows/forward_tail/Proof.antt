@@ -11,11 +11,11 @@ use Rattle.from_rgba.proofs.rows.forward_tail.Statement.{statement}
 use Rattle.from_rgba.proofs.rows.forward_tail.Tie as tie
 
 abbrev Inv-loop : tie.InvT-loop
-Inv-loop pixels y₀ u₀ v₀ n i₀ y u v i =
-    SoFar (λ k. colourAt pixels k .y) y₀ y i × SoFar (λ k. colourAt pixels k .u) u₀ u i × SoFar (λ k. colourAt pixels k .v) v₀ v i
+Inv-loop m pixels y₀ u₀ v₀ n i₀ y u v i =
+    SoFar (λ k. colourAt m pixels k .y) y₀ y i × SoFar (λ k. colourAt m pixels k .u) u₀ u i × SoFar (λ k. colourAt m pixels k .v) v₀ v i
 
 abbrev μ-loop : tie.MeasureT-loop
-μ-loop pixels y₀ u₀ v₀ n i₀ y u v i = n - i
+μ-loop m pixels y₀ u₀ v₀ n i₀ y u v i = n - i
 
 loop-holds : tie.Need-loop-holds Inv-loop μ-loop
 loop-holds c = (so-far-none _ _, so-far-none _ _, so-far-none _ _)
@@ -44,8 +44,8 @@ add-blue c = omega arith
 shared-slice-read-blue : tie.Need-shared-slice-read-blue Inv-loop μ-loop
 shared-slice-read-blue c = omega arith
 
-forward-requires : tie.Need-forward-requires Inv-loop μ-loop
-forward-requires c κs = search needs
+forward-by-requires : tie.Need-forward-by-requires Inv-loop μ-loop
+forward-by-requires c κs = search needs
 
 slice-write-y : tie.Need-slice-write-y Inv-loop μ-loop
 slice-write-y c = omega arith
@@ -66,7 +66,7 @@ loop-again : tie.Need-loop-again Inv-loop μ-loop
 unfolding colourAt
 loop-again c =
     let l = c .before .before .before .before .before in
-    let p = c .forward .ensures in (
+    let p = c .forward-by .ensures in (
       so-far-more _ _ (l .loop .i) (l .loop .inv .0) (omega arith) (ap (λ (q : Yuv). q .y) p),
       so-far-more _ _ (l .loop .i) (l .loop .inv .1) (omega arith) (ap (λ (q : Yuv). q .u) p),
       so-far-more _ _ (l .loop .i) (l .loop .inv .2) (omega arith) (ap (λ (q : Yuv). q .v) p),
@@ -101,7 +101,7 @@ forward-tail-spec =
     mul-blue
     add-blue
     shared-slice-read-blue
-    forward-requires
+    forward-by-requires
     slice-write-y
     slice-write-u
     slice-write-v

@@ -7,7 +7,7 @@ view-to-rgba-requires : tie.Need-view-to-rgba-requires
 view-to-rgba-requires c κs = tt
 
 same-length : tie.Need-same-length
-same-length c = c .before .before .view-to-rgba .kept .1 .1 .1 .1 .0
+same-length c = c .before .before .view-to-rgba .kept .1 .1 .1 .1 .1 .0
 
 returns : tie.Need-returns
 returns c = c .before .before .view-to-rgba .ensures
