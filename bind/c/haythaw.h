@@ -37,6 +37,9 @@
  *             says which; it is the server's own. Chroma that was laid out by one W and is read by another is wrong. By the 16
  *             rule W follows from the view's width, so hand over a view as wide as it was coded, neither cropped nor padded.
  *   RGBA      four bytes a pixel, row after row with nothing between.
+ *   limited   of a colour: BT.601 in limited range, as MS-RDPEVOR's video has it. Y is 16 for black and 235 for white, U and V lie between
+ *             16 and 240. The two calls _limited take and make such samples; all others those of MS-RDPEGFX, BT.709 in full range. No
+ *             sample says which it is: of the one range, shown by the other's call, colours are wrong.
  *   payload   (AVC444) what the wire carries, RFX_AVC444_BITMAP_STREAM of MS-RDPEGFX 2.2.4.5; V2 has the same frame. First a
  *             number of 32 bits: its low 30 bits are the size, its top two bits the kind (0 luma and chroma, 1 luma alone,
  *             2 chroma alone). Then the streams that the kind says. All numbers in it are little-endian.
@@ -59,9 +62,10 @@
  * map follows v in haythaw_new, haythaw_from_rgba, haythaw_from_rgba_rust, haythaw_to_rgba and the five apply calls, haythaw_pixels
  * ends in `stale`, and there is haythaw_map_size. A program that was built for one of them does not work with the other. 0.3: there are
  * the five strict apply calls, haythaw_first_unsound and number 12. 0.4: there are haythaw_check_v1, _v2 and _v2_32, and haythaw_checked.
- * All else is as in 0.2, and a program that was built for 0.2 or 0.3 works with 0.4. */
+ * 0.5: there are haythaw_view_to_rgba_limited and haythaw_from_rgba_limited. All else is as in 0.2, and a program that was built for 0.2,
+ * 0.3 or 0.4 works with 0.5. */
 #define HAYTHAW_VERSION_MAJOR 0
-#define HAYTHAW_VERSION_MINOR 4
+#define HAYTHAW_VERSION_MINOR 5
 #define HAYTHAW_VERSION_PATCH 0
 
 /* Before each call that answers a number: a compiler that can, warns where the answer is not looked at. A program may define it away. */
@@ -254,6 +258,19 @@ HAYTHAW_MUST_USE
 uint32_t haythaw_from_rgba_rust(const uint8_t *rgba, size_t rgba_count, uint16_t width, uint16_t height,
                                 uint8_t *y, size_t y_count, uint8_t *u, size_t u_count, uint8_t *v, size_t v_count,
                                 uint8_t *map, size_t map_count);
+
+/* The same in limited range: of a pixel
+ *     Y = (66 R + 129 G + 25 B + 128)/256 + 16
+ *     U = (-38 R - 74 G + 112 B + 128)/256 + 128
+ *     V = (112 R - 94 G - 18 B + 128)/256 + 128
+ * each quotient rounded down, also below zero, and then all as in haythaw_from_rgba: the edge filled, U and V averaged, the map 2. So Y lies
+ * between 16 and 235, U and V between 16 and 240. The picture is to be split and sent; a viewer shows its main view by
+ * haythaw_view_to_rgba_limited. haythaw_to_rgba takes every picture for one of full range.
+ * Answers 0, 2 or 1, in this order of refusals. Writes what haythaw_from_rgba writes. */
+HAYTHAW_MUST_USE
+uint32_t haythaw_from_rgba_limited(const uint8_t *rgba, size_t rgba_count, uint16_t width, uint16_t height,
+                                   uint8_t *y, size_t y_count, uint8_t *u, size_t u_count, uint8_t *v, size_t v_count,
+                                   uint8_t *map, size_t map_count);
 
 /* The rectangle's pixels as RGBA, alpha 255. The rectangle is clipped to the picture; an empty one writes nothing, with number 0
  * and all counts 0. At pixels of even row and even column of the picture U and V go through the reverse filter on their way, which
@@ -523,6 +540,20 @@ HAYTHAW_MUST_USE
 haythaw_answer haythaw_view_to_rgba(uint16_t view_width, uint16_t view_height, size_t luma_stride, size_t chroma_stride,
                                     const uint8_t *view_y, size_t view_y_count, const uint8_t *view_u, size_t view_u_count,
                                     const uint8_t *view_v, size_t view_v_count, uint8_t *out, size_t out_count);
+
+/* The same of a view in limited range: with c = 298(Y - 16), u = U - 128 and v = V - 128
+ *     R = (c + 409 v + 128)/256
+ *     G = (c - 100 u - 208 v + 128)/256
+ *     B = (c + 516 u + 128)/256
+ * each rounded down, also below zero, and clamped to 0 to 255. So Y 16 with U and V 128 is black, and Y 235 white; samples outside of the
+ * range are taken as the formulas have them. Pixels that haythaw_from_rgba_limited took are at most 3 off in each of R, G and B, where
+ * the four of a block are alike.
+ * Answers 0, 3, 4 or 6, in this order of refusals; the count is 4 x view_width x view_height. Writes the first count bytes of
+ * out; bytes after them stay. */
+HAYTHAW_MUST_USE
+haythaw_answer haythaw_view_to_rgba_limited(uint16_t view_width, uint16_t view_height, size_t luma_stride, size_t chroma_stride,
+                                            const uint8_t *view_y, size_t view_y_count, const uint8_t *view_u, size_t view_u_count,
+                                            const uint8_t *view_v, size_t view_v_count, uint8_t *out, size_t out_count);
 
 /* ---- The AVC444 payload, read ----
  *

@@ -111,6 +111,13 @@ static inline uint32_t haythaw_picture_from_rgba_rust(const haythaw_picture *pic
     return haythaw_from_rgba_rust(rgba, rgba_count, picture->width, picture->height, HAYTHAW_PICTURE_OF(picture));
 }
 
+/* haythaw_from_rgba_limited. */
+HAYTHAW_MUST_USE
+static inline uint32_t haythaw_picture_from_rgba_limited(const haythaw_picture *picture, const uint8_t *rgba, size_t rgba_count)
+{
+    return haythaw_from_rgba_limited(rgba, rgba_count, picture->width, picture->height, HAYTHAW_PICTURE_OF(picture));
+}
+
 /* haythaw_to_rgba. */
 HAYTHAW_MUST_USE
 static inline haythaw_pixels haythaw_picture_to_rgba(const haythaw_picture *picture, uint16_t left, uint16_t top, uint16_t right,
@@ -208,6 +215,13 @@ HAYTHAW_MUST_USE
 static inline haythaw_answer haythaw_view_planes_to_rgba(const haythaw_view_planes *view, uint8_t *out, size_t out_count)
 {
     return haythaw_view_to_rgba(HAYTHAW_VIEW_OF(view), out, out_count);
+}
+
+/* haythaw_view_to_rgba_limited. */
+HAYTHAW_MUST_USE
+static inline haythaw_answer haythaw_view_planes_to_rgba_limited(const haythaw_view_planes *view, uint8_t *out, size_t out_count)
+{
+    return haythaw_view_to_rgba_limited(HAYTHAW_VIEW_OF(view), out, out_count);
 }
 
 #undef HAYTHAW_PICTURE_OF

@@ -30,6 +30,7 @@ static enum call chosen;
 ALONE(do_new, haythaw_new(PICTURE))
 ALONE(do_from_rgba, haythaw_from_rgba(LENT(RGBA), PICTURE))
 ALONE(do_from_rgba_rust, haythaw_from_rgba_rust(LENT(RGBA), PICTURE))
+ALONE(do_from_rgba_limited, haythaw_from_rgba_limited(LENT(RGBA), PICTURE))
 ALONE(do_to_rgba, haythaw_to_rgba(PICTURE, a->left, a->top, a->right, a->bottom, LENT(OUT)))
 ALONE(do_main, haythaw_apply_main_view(PICTURE, LENT(RECTS), A_VIEW))
 ALONE(do_aux_v1, haythaw_apply_auxiliary_v1(PICTURE, LENT(RECTS), A_VIEW))
@@ -53,6 +54,7 @@ ALONE(do_luma_row, haythaw_luma_row(A_VIEW, a->row))
 ALONE(do_u_row, haythaw_u_row(A_VIEW, a->row))
 ALONE(do_v_row, haythaw_v_row(A_VIEW, a->row))
 ALONE(do_view_to_rgba, haythaw_view_to_rgba(A_VIEW, LENT(OUT)))
+ALONE(do_view_to_rgba_limited, haythaw_view_to_rgba_limited(A_VIEW, LENT(OUT)))
 ALONE(do_is_avc, haythaw_is_avc_format(LENT(DATA)))
 ALONE(do_annex_b, haythaw_avc_to_annex_b(LENT(DATA), LENT(OUT)))
 ALONE(do_read, haythaw_avc444_read(LENT(PAYLOAD)))
@@ -67,10 +69,10 @@ ALONE(do_allocation_size, haythaw_allocation_size(a->width, a->height))
 ALONE(do_map_size, haythaw_map_size(a->width, a->height))
 
 static void (*const alone[CALLS + 2])(const Args *) = {
-    do_new, do_from_rgba, do_from_rgba_rust, do_to_rgba, do_main, do_aux_v1, do_aux_v2, do_aux_v2_32, do_aux_v2_exact, do_main_strict,
-    do_aux_v1_strict, do_aux_v2_strict, do_aux_v2_32_strict, do_aux_v2_exact_strict, do_first_unsound, do_split_v1,
-    do_split_v2, do_split_v2_32, do_check_v1, do_check_v2, do_check_v2_32, do_view, do_luma_row, do_u_row, do_v_row, do_view_to_rgba, do_is_avc,
-    do_annex_b, do_read, do_luma_rectangle, do_chroma_rectangle, do_luma_pair, do_chroma_pair, do_luma_rects, do_chroma_rects, do_write,
+    do_new, do_from_rgba, do_from_rgba_rust, do_from_rgba_limited, do_to_rgba, do_main, do_aux_v1, do_aux_v2, do_aux_v2_32, do_aux_v2_exact,
+    do_main_strict, do_aux_v1_strict, do_aux_v2_strict, do_aux_v2_32_strict, do_aux_v2_exact_strict, do_first_unsound, do_split_v1, do_split_v2,
+    do_split_v2_32, do_check_v1, do_check_v2, do_check_v2_32, do_view, do_luma_row, do_u_row, do_v_row, do_view_to_rgba, do_view_to_rgba_limited,
+    do_is_avc, do_annex_b, do_read, do_luma_rectangle, do_chroma_rectangle, do_luma_pair, do_chroma_pair, do_luma_rects, do_chroma_rects, do_write,
     do_allocation_size, do_map_size};
 
 static void on_its_own_stack(void)

@@ -9,6 +9,7 @@
 #include "test/edges.h"
 #include "test/far.h"
 #include "test/lengths.h"
+#include "test/limited.h"
 #include "test/map.h"
 #include "test/off.h"
 #include "test/planes.h"
@@ -90,6 +91,7 @@ int main(int words, char **word)
     refused_far();
     off_of_every_pair();
     forward_unclamped();
+    limited_of_all(words > 1);
     if (words > 1)
         left_out("a stream of 2^30 - 1 bytes written, for want of time");
     else
@@ -122,6 +124,9 @@ int main(int words, char **word)
         split_at_its_limit();
         rows_by_hand();
         view_to_rgba_by_hand();
+        limited_view_by_hand();
+        limited_views();
+        from_rgba_limited_by_hand();
         payloads_by_hand();
         wires_by_hand();
         parts_by_hand();

@@ -25,10 +25,10 @@ static size_t may_write(enum call call, const Args *a, const Result *r, enum sli
     if (r->number != 0)
         return 0;
     switch (clipping(call)) {
-    case NEW: case FROM_RGBA: case FROM_RGBA_RUST: case MAIN: return s <= V ? plane : s == MAP ? plane / 4 : 0;
+    case NEW: case FROM_RGBA: case FROM_RGBA_RUST: case FROM_RGBA_LIMITED: case MAIN: return s <= V ? plane : s == MAP ? plane / 4 : 0;
     case AUX_V1: case AUX_V2: case AUX_V2_32: case AUX_V2_EXACT: return s == U || s == V ? plane : s == MAP ? plane / 4 : 0;
     case SPLIT_V1: case SPLIT_V2: case SPLIT_V2_32: return s == MAIN_Y || s == AUX_Y ? luma : s > MAIN_Y && s <= AUX_V ? luma / 4 : 0;
-    case TO_RGBA: case VIEW_TO_RGBA: case ANNEX_B: case WRITE: return s == OUT ? r->count : 0;
+    case TO_RGBA: case VIEW_TO_RGBA: case VIEW_TO_RGBA_LIMITED: case ANNEX_B: case WRITE: return s == OUT ? r->count : 0;
     case LUMA_RECTS: case CHROMA_RECTS: return s == NUMBERS ? 2 * r->count : 0;
     default: return 0;
     }
@@ -76,7 +76,7 @@ static const Field *fields_of(int call)
     case ALLOCATION_SIZE: return size;
     case IS_AVC: return yes;
     case TO_RGBA: return pixels;
-    case VIEW_TO_RGBA: case ANNEX_B: case LUMA_RECTS: case CHROMA_RECTS: case WRITE: return answer;
+    case VIEW_TO_RGBA: case VIEW_TO_RGBA_LIMITED: case ANNEX_B: case LUMA_RECTS: case CHROMA_RECTS: case WRITE: return answer;
     case LUMA_ROW: case U_ROW: case V_ROW: return row;
     case SPLIT_V1: case SPLIT_V2: case SPLIT_V2_32: return views;
     case READ: return avc444;

@@ -66,7 +66,7 @@ static uint8_t state_after(enum call call, const Args *a, size_t row, size_t col
 {
     switch (call) {
     case NEW: return 0;
-    case FROM_RGBA: case FROM_RGBA_RUST: return 2;
+    case FROM_RGBA: case FROM_RGBA_RUST: case FROM_RGBA_LIMITED: return 2;
     case TO_RGBA: return before;
     default: return marked(clipping(call), a, row, col, before);
     }

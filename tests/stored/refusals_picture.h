@@ -1,6 +1,6 @@
-/* refusals_picture: a fresh picture (1), a picture from RGBA by either call (2, 1), a picture to RGBA (1, 6) and a view to RGBA (3, 4, 6),
- * each number at the edge where it begins. A line has the answer, and what the lent bytes are afterwards: unchanged, or a checksum of what
- * was written. */
+/* refusals_picture: a fresh picture (1), a picture from RGBA by each call (2, 1), a picture to RGBA (1, 6) and a view to RGBA (3, 4, 6),
+ * each number at the edge where it begins; in limited range the cases of from RGBA and of a view once more. A line has the answer, and what the
+ * lent bytes are afterwards: unchanged, or a checksum of what was written. */
 #ifndef STORED_REFUSALS_PICTURE_H
 #define STORED_REFUSALS_PICTURE_H
 
@@ -63,7 +63,7 @@ static const PlanesCase planes_cases[] = {
     {"from rust: largest", FROM_RGBA_RUST, 65535, 65535, 101, {257, 257, 257, 65}},
 };
 
-static void planes_line(const PlanesCase *c)
+static void planes_line(const PlanesCase *c, enum call call)
 {
     Args a = {0};
     a.width = c->width, a.height = c->height;
@@ -71,13 +71,13 @@ static void planes_line(const PlanesCase *c)
         lend_all(&a, (enum slice)(Y + p), c->lengths[p], UNWRITTEN);
     lend_map(&a, c->lengths[3]);
     lend_all(&a, RGBA, c->rgba, PIXEL_BYTE);
-    const Result r = asked(c->call, &a);
+    const Result r = asked(call, &a);
     say_answer(c->name, &r);
     say_planes(&a, UNWRITTEN, FIVE_PLANE);
-    if (c->call != NEW)
+    if (call != NEW)
         say_read(", rgba ", &a, RGBA, RGBA, PIXEL_BYTE);
     printf("\n");
-    over(c->call);
+    over(call);
 }
 
 /* A picture's size, the lengths of its planes and of its map, a rectangle, and the bytes of output lent. All bytes of the planes are 128, and
@@ -179,24 +179,40 @@ static const ViewPixelsCase view_pixels_cases[] = {
     {"view: 5 x 0, luma 4", 5, 0, 4, 3, {0, 0, 0}, 0},
 };
 
-static void view_pixels_line(const ViewPixelsCase *c)
+static void view_pixels_line(const ViewPixelsCase *c, enum call call)
 {
     Args a = {0};
     a.view_width = c->width, a.view_height = c->height, a.luma_stride = c->luma, a.chroma_stride = c->chroma;
     for (int p = 0; p < 3; p++)
         lend_all(&a, (enum slice)(VIEW_Y + p), c->lengths[p], GREY);
     lend_all(&a, OUT, c->room, UNWRITTEN);
-    converted_line(c->name, VIEW_TO_RGBA, &a, VIEW_Y);
+    converted_line(c->name, call, &a, VIEW_Y);
+}
+
+/* In limited range: of pixels that are all 200 Y is (220 x 200 + 128)/256 + 16 = 188, and of samples that are all 128 a pixel is
+ * (298 x 112 + 128)/256 = 130. */
+static void limited_lines(void)
+{
+    for (size_t k = 0; k < sizeof planes_cases / sizeof *planes_cases; k++)
+        if (planes_cases[k].call == FROM_RGBA) {
+            printf("limited ");
+            planes_line(&planes_cases[k], FROM_RGBA_LIMITED);
+        }
+    for (size_t k = 0; k < sizeof view_pixels_cases / sizeof *view_pixels_cases; k++) {
+        printf("limited ");
+        view_pixels_line(&view_pixels_cases[k], VIEW_TO_RGBA_LIMITED);
+    }
 }
 
 static void refusals_picture(void)
 {
     for (size_t k = 0; k < sizeof planes_cases / sizeof *planes_cases; k++)
-        planes_line(&planes_cases[k]);
+        planes_line(&planes_cases[k], planes_cases[k].call);
     for (size_t k = 0; k < sizeof pixels_cases / sizeof *pixels_cases; k++)
         pixels_line(&pixels_cases[k]);
     for (size_t k = 0; k < sizeof view_pixels_cases / sizeof *view_pixels_cases; k++)
-        view_pixels_line(&view_pixels_cases[k]);
+        view_pixels_line(&view_pixels_cases[k], VIEW_TO_RGBA);
+    limited_lines();
 }
 
 #endif

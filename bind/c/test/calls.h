@@ -6,16 +6,16 @@
 #include "../haythaw.h"
 
 enum call {
-    NEW, FROM_RGBA, FROM_RGBA_RUST, TO_RGBA, MAIN, AUX_V1, AUX_V2, AUX_V2_32, AUX_V2_EXACT, MAIN_STRICT, AUX_V1_STRICT, AUX_V2_STRICT,
-    AUX_V2_32_STRICT, AUX_V2_EXACT_STRICT, FIRST_UNSOUND, SPLIT_V1, SPLIT_V2, SPLIT_V2_32, CHECK_V1, CHECK_V2, CHECK_V2_32, VIEW,
-    LUMA_ROW, U_ROW, V_ROW, VIEW_TO_RGBA, IS_AVC, ANNEX_B, READ, LUMA_RECTANGLE, CHROMA_RECTANGLE, LUMA_PAIR, CHROMA_PAIR, LUMA_RECTS, CHROMA_RECTS,
-    WRITE, CALLS
+    NEW, FROM_RGBA, FROM_RGBA_RUST, FROM_RGBA_LIMITED, TO_RGBA, MAIN, AUX_V1, AUX_V2, AUX_V2_32, AUX_V2_EXACT, MAIN_STRICT, AUX_V1_STRICT,
+    AUX_V2_STRICT, AUX_V2_32_STRICT, AUX_V2_EXACT_STRICT, FIRST_UNSOUND, SPLIT_V1, SPLIT_V2, SPLIT_V2_32, CHECK_V1, CHECK_V2, CHECK_V2_32, VIEW,
+    LUMA_ROW, U_ROW, V_ROW, VIEW_TO_RGBA, VIEW_TO_RGBA_LIMITED, IS_AVC, ANNEX_B, READ, LUMA_RECTANGLE, CHROMA_RECTANGLE, LUMA_PAIR,
+    CHROMA_PAIR, LUMA_RECTS, CHROMA_RECTS, WRITE, CALLS
 };
 static const char *const call_names[CALLS] = {
-    "new", "from_rgba", "from_rgba_rust", "to_rgba", "apply_main_view", "apply_auxiliary_v1", "apply_auxiliary_v2",
+    "new", "from_rgba", "from_rgba_rust", "from_rgba_limited", "to_rgba", "apply_main_view", "apply_auxiliary_v1", "apply_auxiliary_v2",
     "apply_auxiliary_v2_32", "apply_auxiliary_v2_exact", "apply_main_view_strict", "apply_auxiliary_v1_strict", "apply_auxiliary_v2_strict",
     "apply_auxiliary_v2_32_strict", "apply_auxiliary_v2_exact_strict", "first_unsound",
-    "split_v1", "split_v2", "split_v2_32", "check_v1", "check_v2", "check_v2_32", "view", "luma_row", "u_row", "v_row", "view_to_rgba",
+    "split_v1", "split_v2", "split_v2_32", "check_v1", "check_v2", "check_v2_32", "view", "luma_row", "u_row", "v_row", "view_to_rgba", "view_to_rgba_limited",
     "is_avc_format", "avc_to_annex_b", "avc444_read", "avc444_luma_rectangle", "avc444_chroma_rectangle", "avc444_luma_pair",
     "avc444_chroma_pair", "avc444_luma_rects", "avc444_chroma_rects", "avc444_write"};
 
@@ -188,6 +188,7 @@ static Result run(enum call call, const Args *a)
     case NEW: return of_number(haythaw_new(PICTURE));
     case FROM_RGBA: return of_number(haythaw_from_rgba(LENT(RGBA), PICTURE));
     case FROM_RGBA_RUST: return of_number(haythaw_from_rgba_rust(LENT(RGBA), PICTURE));
+    case FROM_RGBA_LIMITED: return of_number(haythaw_from_rgba_limited(LENT(RGBA), PICTURE));
     case TO_RGBA: return of_pixels(haythaw_to_rgba(PICTURE, a->left, a->top, a->right, a->bottom, LENT(OUT)));
     case MAIN: return of_number(haythaw_apply_main_view(PICTURE, LENT(RECTS), A_VIEW));
     case AUX_V1: return of_number(haythaw_apply_auxiliary_v1(PICTURE, LENT(RECTS), A_VIEW));
@@ -211,6 +212,7 @@ static Result run(enum call call, const Args *a)
     case U_ROW: return of_row(haythaw_u_row(A_VIEW, a->row));
     case V_ROW: return of_row(haythaw_v_row(A_VIEW, a->row));
     case VIEW_TO_RGBA: return of_answer(haythaw_view_to_rgba(A_VIEW, LENT(OUT)));
+    case VIEW_TO_RGBA_LIMITED: return of_answer(haythaw_view_to_rgba_limited(A_VIEW, LENT(OUT)));
     case IS_AVC: return of_bool(haythaw_is_avc_format(LENT(DATA)));
     case ANNEX_B: return of_answer(haythaw_avc_to_annex_b(LENT(DATA), LENT(OUT)));
     case READ: return of_avc444(haythaw_avc444_read(LENT(PAYLOAD)));

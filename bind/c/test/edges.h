@@ -1,14 +1,19 @@
-/* Both calls that make a picture from RGBA, over pixels of noise, against their rules said again in a few lines: what the padding is before
+/* The calls that make a picture from RGBA, over pixels of noise, against their rules said again in a few lines: what the padding is before
  * the averages, and the averages. */
 #ifndef EDGES_H
 #define EDGES_H
 
 #include "check.h"
 
-/* A sample of a pixel. The 32768 is the 128 that is added to U and V, and leaves nothing below zero to be divided. */
-static uint8_t of_pixel(enum slice plane, const uint8_t *rgb)
+/* A sample of a pixel. The 32768 is the 128 that is added to U and V, and leaves nothing below zero to be divided; so is 4096 the 16 of Y in
+ * limited range, where all three are rounded by 128. */
+static uint8_t of_pixel(enum call call, enum slice plane, const uint8_t *rgb)
 {
     const int r = rgb[0], g = rgb[1], b = rgb[2];
+    if (call == FROM_RGBA_LIMITED)
+        return (uint8_t)((plane == Y   ? 4096 + 66 * r + 129 * g + 25 * b + 128
+                          : plane == U ? 32768 - 38 * r - 74 * g + 112 * b + 128
+                                       : 32768 + 112 * r - 94 * g - 18 * b + 128) / 256);
     return (uint8_t)((plane == Y   ? 54 * r + 183 * g + 18 * b
                       : plane == U ? 32768 - 29 * r - 99 * g + 128 * b
                                    : 32768 + 128 * r - 116 * g - 12 * b) / 256);
@@ -21,7 +26,7 @@ static uint8_t before_average(enum call call, const Args *a, enum slice plane, s
     if (!inside && call == FROM_RGBA_RUST)
         return plane == Y ? 0 : 128;
     const size_t r = row < a->height ? row : a->height - 1u, c = col < a->width ? col : a->width - 1u;
-    return of_pixel(plane, (const uint8_t *)a->at[RGBA] + 4 * (r * a->width + c));
+    return of_pixel(call, plane, (const uint8_t *)a->at[RGBA] + 4 * (r * a->width + c));
 }
 
 static uint8_t after_average(enum call call, const Args *a, enum slice plane, size_t row, size_t col)
@@ -69,7 +74,7 @@ static void edges_by_the_rule(void)
                                         {16, 17}, {17, 17}, {31, 18}, {32, 32}, {33, 47}, {129, 1}, {0, 0}, {0, 5}, {5, 0}, {65535, 0},
                                         {0, 65535}, {65535, 1}, {1, 65535}};
     for (size_t k = 0; k < sizeof sizes / sizeof *sizes; k++)
-        for (int call = FROM_RGBA; call <= FROM_RGBA_RUST; call++)
+        for (int call = FROM_RGBA; call <= FROM_RGBA_LIMITED; call++)
             by_the_rule((enum call)call, sizes[k][0], sizes[k][1]);
 }
 
@@ -95,7 +100,7 @@ static void no_side_by_hand(void)
 {
     static const uint16_t sizes[3][2] = {{0, 0}, {0, 5}, {5, 0}};
     for (size_t k = 0; k < 3; k++)
-        for (int call = FROM_RGBA; call <= FROM_RGBA_RUST; call++) {
+        for (int call = FROM_RGBA; call <= FROM_RGBA_LIMITED; call++) {
             Args a = {0};
             picture(&a, sizes[k][0], sizes[k][1], 300);
             lend_as(&a, RGBA, 30, NULL);

@@ -30,6 +30,7 @@ static const struct { size_t used; Need needs[9]; } needs[CALLS] = {
     [NEW] = {4, {THE_PICTURE}},
     [FROM_RGBA] = {5, {{RGBA, 204, 2, 2}, THE_PICTURE}},
     [FROM_RGBA_RUST] = {5, {{RGBA, 204, 2, 2}, THE_PICTURE}},
+    [FROM_RGBA_LIMITED] = {5, {{RGBA, 204, 2, 2}, THE_PICTURE}},
     [TO_RGBA] = {5, {THE_PICTURE, {OUT, 128, 6, 6}}},
     [MAIN] = {8, {THE_PICTURE, {RECTS, 4, 7, 0}, THE_VIEW}},
     [AUX_V1] = {8, {THE_PICTURE, {RECTS, 4, 7, 0}, THE_VIEW}},
@@ -53,6 +54,7 @@ static const struct { size_t used; Need needs[9]; } needs[CALLS] = {
     [U_ROW] = {3, {THE_VIEW}},
     [V_ROW] = {3, {THE_VIEW}},
     [VIEW_TO_RGBA] = {4, {THE_VIEW, {OUT, 60, 6, 6}}},
+    [VIEW_TO_RGBA_LIMITED] = {4, {THE_VIEW, {OUT, 60, 6, 6}}},
     [ANNEX_B] = {1, {{OUT, 6, 6, 6}}},
     [READ] = {1, {THE_PAYLOAD}},
     [LUMA_RECTANGLE] = {1, {THE_PAYLOAD}},
@@ -115,7 +117,8 @@ static void with_lengths(enum call call, const enum length *lengths)
         check(is_refusal(&r, number), call_names[call], "a refusal's fields");
         check(lent_kept(), call_names[call], "a refusal changed a byte");
     } else {
-        static const size_t counts[CALLS] = {[TO_RGBA] = 128, [VIEW_TO_RGBA] = 60, [ANNEX_B] = 6, [LUMA_RECTS] = 4, [CHROMA_RECTS] = 8};
+        static const size_t counts[CALLS] = {[TO_RGBA] = 128, [VIEW_TO_RGBA] = 60, [VIEW_TO_RGBA_LIMITED] = 60, [ANNEX_B] = 6, [LUMA_RECTS] = 4,
+                                             [CHROMA_RECTS] = 8};
         check(r.number == 0 && r.count == counts[call], call_names[call], "number and count");
         for (size_t k = 0; k < needs[call].used; k++) {
             const Need *need = &needs[call].needs[k];

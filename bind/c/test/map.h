@@ -25,8 +25,8 @@ static bool map_is(const Args *a, size_t across, size_t down, const size_t box[4
 /* A picture that is made: 0 everywhere when it is fresh, 2 everywhere when it is of RGBA, in the blocks of padding too. 1x1 has 64. */
 static void made_maps_by_hand(void)
 {
-    static const struct { enum call call; uint8_t set; } cases[] = {{NEW, 0}, {FROM_RGBA, 2}, {FROM_RGBA_RUST, 2}};
-    for (size_t k = 0; k < 3; k++)
+    static const struct { enum call call; uint8_t set; } cases[] = {{NEW, 0}, {FROM_RGBA, 2}, {FROM_RGBA_RUST, 2}, {FROM_RGBA_LIMITED, 2}};
+    for (size_t k = 0; k < sizeof cases / sizeof *cases; k++)
         for (size_t extra = 0; extra < 2; extra++) {
             Args a = {0};
             picture(&a, 1, 1, 256);
@@ -163,7 +163,7 @@ static void short_maps_by_hand(void)
         a.count[RECTS] = 3, a.right = 16, a.bottom = 16;
         a.count[MAP] = 63;
         Result r = tried((enum call)call, &a);
-        check(is_refusal(&r, call == FROM_RGBA || call == FROM_RGBA_RUST ? 2 : 1) && lent_kept(), call_names[call], "a short map and more");
+        check(is_refusal(&r, call >= FROM_RGBA && call <= FROM_RGBA_LIMITED ? 2 : 1) && lent_kept(), call_names[call], "a short map and more");
         over((enum call)call);
     }
 }

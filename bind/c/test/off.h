@@ -1,6 +1,6 @@
 /* How far a colour can be off: the chroma that the reverse filter answers for an even-even sample lies between 30 below and 31 above the
  * sample before averaging, and where the filter is applied between 1 below and 2 above. The four cases that reach these numbers, by hand;
- * every sample with every sum of the other three; and pictures by both calls that make one from RGBA. And every colour forward, on none of
+ * every sample with every sum of the other three; and pictures by the calls that make one from RGBA. And every colour forward, on none of
  * which the clamp acts. */
 #ifndef OFF_H
 #define OFF_H
@@ -163,8 +163,8 @@ static void off_of_every_pair(void)
     check(off.least[1] == -1 && off.most[1] == 2, "filter", "how far every undone average is off");
 }
 
-/* Pixels that sit at the filter's threshold: in red and blue the even-even one of each block is 73 to 111 away from the other three, above
- * them and below them in turns. So U and V are 28 to 50 away, and their averages 21 to 38 off. */
+/* Pixels that sit at the filter's threshold: in red and blue the even-even one of each block is 73 to 159 away from the other three, above
+ * them and below them in turns. So U and V are 28 to 73 away, or 21 to 59 in limited range, and their averages 21 to 55 off, or 15 to 45. */
 static Args near_threshold(uint16_t width, uint16_t height)
 {
     Args a = noise(width, height);
@@ -172,7 +172,7 @@ static Args near_threshold(uint16_t width, uint16_t height)
         for (size_t col = 0; col < width; col++) {
             uint8_t *rgb = pixel_at(&a, row, col);
             const bool first = row % 2 == 0 && col % 2 == 0, above = (row / 2 + col / 2) % 2 == 0;
-            rgb[0] = rgb[2] = (uint8_t)(first == above ? 140 + rgb[0] % 32 : 60 + rgb[0] % 8);
+            rgb[0] = rgb[2] = (uint8_t)(first == above ? 140 + rgb[0] % 80 : 60 + rgb[0] % 8);
             rgb[1] = 128;
         }
     return a;
@@ -216,7 +216,7 @@ static Off off_in_pictures(enum call call, enum slice plane, Args made(uint16_t 
 /* On noise most averages are undone. At the threshold many are kept, and these are the far ones. */
 static void off_by_the_rule(void)
 {
-    for (int call = FROM_RGBA; call <= FROM_RGBA_RUST; call++)
+    for (int call = FROM_RGBA; call <= FROM_RGBA_LIMITED; call++)
         for (int s = U; s <= V; s++) {
             Off off = off_in_pictures((enum call)call, (enum slice)s, noise);
             check(off.applied > 0, call_names[call], "undone averages on noise");

@@ -11,9 +11,9 @@
 static void check(bool holds, const char *call, const char *what);
 
 enum planes_call {
-    P_NEW, P_FROM_RGBA, P_FROM_RGBA_RUST, P_TO_RGBA, P_FIRST_UNSOUND, P_MAIN, P_V1, P_V2, P_V2_32, P_V2_EXACT, P_MAIN_STRICT,
-    P_V1_STRICT, P_V2_STRICT, P_V2_32_STRICT, P_V2_EXACT_STRICT, P_SPLIT_V1, P_SPLIT_V2, P_SPLIT_V2_32, P_CHECK_V1, P_CHECK_V2,
-    P_CHECK_V2_32, P_VIEW, P_VIEW_TO_RGBA, P_CALLS
+    P_NEW, P_FROM_RGBA, P_FROM_RGBA_RUST, P_FROM_RGBA_LIMITED, P_TO_RGBA, P_FIRST_UNSOUND, P_MAIN, P_V1, P_V2, P_V2_32, P_V2_EXACT,
+    P_MAIN_STRICT, P_V1_STRICT, P_V2_STRICT, P_V2_32_STRICT, P_V2_EXACT_STRICT, P_SPLIT_V1, P_SPLIT_V2, P_SPLIT_V2_32, P_CHECK_V1,
+    P_CHECK_V2, P_CHECK_V2_32, P_VIEW, P_VIEW_TO_RGBA, P_VIEW_TO_RGBA_LIMITED, P_CALLS
 };
 
 /* The numbers that can be altered, and what they are where the call is accepted; counts last. */
@@ -103,6 +103,7 @@ static PlanesAnswer planes_plain(enum planes_call call, const size_t *w, PlanesL
     case P_NEW: return planes_number(haythaw_new(PLANES_SIZE, PLANES_FOUR));
     case P_FROM_RGBA: return planes_number(haythaw_from_rgba(planes_rgba, w[W_RGBA], PLANES_SIZE, PLANES_FOUR));
     case P_FROM_RGBA_RUST: return planes_number(haythaw_from_rgba_rust(planes_rgba, w[W_RGBA], PLANES_SIZE, PLANES_FOUR));
+    case P_FROM_RGBA_LIMITED: return planes_number(haythaw_from_rgba_limited(planes_rgba, w[W_RGBA], PLANES_SIZE, PLANES_FOUR));
     case P_TO_RGBA: return planes_pixels(haythaw_to_rgba(PLANES_SIZE, PLANES_FOUR, PLANES_AREA));
     case P_FIRST_UNSOUND: return planes_unsound(haythaw_first_unsound(PLANES_SIZE, PLANES_LIST));
     case P_MAIN: return planes_number(haythaw_apply_main_view(PLANES_SIZE, PLANES_FOUR, PLANES_LIST, PLANES_VIEW));
@@ -123,6 +124,7 @@ static PlanesAnswer planes_plain(enum planes_call call, const size_t *w, PlanesL
     case P_CHECK_V2_32: return planes_checked(haythaw_check_v2_32(PLANES_SIZE, PLANES_THREE, PLANES_MAIN_SPLIT, PLANES_AUXILIARY_SPLIT));
     case P_VIEW: return planes_number(haythaw_view(PLANES_VIEW));
     case P_VIEW_TO_RGBA: return planes_short(haythaw_view_to_rgba(PLANES_VIEW, lent->out, w[W_OUT]));
+    case P_VIEW_TO_RGBA_LIMITED: return planes_short(haythaw_view_to_rgba_limited(PLANES_VIEW, lent->out, w[W_OUT]));
     case P_CALLS: break;
     }
     return planes_number(UINT32_MAX);
@@ -139,6 +141,7 @@ static PlanesAnswer planes_structs(enum planes_call call, const size_t *w, Plane
     case P_NEW: return planes_number(haythaw_picture_new(&picture));
     case P_FROM_RGBA: return planes_number(haythaw_picture_from_rgba(&picture, planes_rgba, w[W_RGBA]));
     case P_FROM_RGBA_RUST: return planes_number(haythaw_picture_from_rgba_rust(&picture, planes_rgba, w[W_RGBA]));
+    case P_FROM_RGBA_LIMITED: return planes_number(haythaw_picture_from_rgba_limited(&picture, planes_rgba, w[W_RGBA]));
     case P_TO_RGBA: return planes_pixels(haythaw_picture_to_rgba(&picture, PLANES_AREA));
     case P_FIRST_UNSOUND: return planes_unsound(haythaw_picture_first_unsound(&picture, list));
     case P_MAIN: return planes_number(haythaw_picture_apply_main_view(&picture, list, &view));
@@ -159,6 +162,7 @@ static PlanesAnswer planes_structs(enum planes_call call, const size_t *w, Plane
     case P_CHECK_V2_32: return planes_checked(haythaw_picture_check_v2_32(&picture, &main_split, &auxiliary_split));
     case P_VIEW: return planes_number(haythaw_view_planes_check(&view));
     case P_VIEW_TO_RGBA: return planes_short(haythaw_view_planes_to_rgba(&view, lent->out, w[W_OUT]));
+    case P_VIEW_TO_RGBA_LIMITED: return planes_short(haythaw_view_planes_to_rgba_limited(&view, lent->out, w[W_OUT]));
     case P_CALLS: break;
     }
     return planes_number(UINT32_MAX);

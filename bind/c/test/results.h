@@ -128,6 +128,30 @@ static void result_of_picture(void)
     check(shown.number == HAYTHAW_DONE && shown.filtered_v == 1 && shown.stale == 2, "to_rgba", "what is stale");
 }
 
+/* Limited range, red and green: Y (66 x 255 + 128)/256 + 16 = 82 and (129 x 255 + 128)/256 + 16 = 144; U 90 and 54, V 240 and 34, and the
+ * averages of the first block (90 + 54 + 90 + 54 + 2)/4 = 72 and (240 + 34 + 240 + 34 + 2)/4 = 137. Red and black come back as 255 1 0 and 0. */
+static void result_of_limited(void)
+{
+    static uint8_t y[256], u[256], v[256], map[64];
+    const uint8_t rgba[8] = {255, 0, 0, 255, 0, 255, 0, 255};
+    check(haythaw_from_rgba_limited(rgba, 7, 2, 1, y, 256, u, 256, v, 256, map, 64) == HAYTHAW_RGBA_SHORT && y[0] == 0 && map[0] == 0,
+          "from_rgba_limited", "a refusal");
+    check(haythaw_from_rgba_limited(rgba, 8, 2, 1, y, 256, u, 256, v, 256, map, 64) == HAYTHAW_DONE, "from_rgba_limited", "a number");
+    check(y[0] == 82 && y[1] == 144 && u[0] == 72 && u[1] == 54 && v[0] == 137 && v[1] == 34, "from_rgba_limited", "a picture");
+    check(y[16] == 82 && u[16] == 90 && v[16] == 240 && y[255] == 144 && u[255] == 54 && v[255] == 34, "from_rgba_limited", "its edge");
+    check(map[0] == 2 && map[63] == 2, "from_rgba_limited", "its map");
+
+    const uint8_t view_y[4] = {82, 9, 16, 9}, view_u[2] = {90, 9}, view_v[2] = {240, 9}, dark_u[2] = {128, 9}, dark_v[2] = {128, 9};
+    const uint8_t red[4] = {255, 1, 0, 255}, black[4] = {0, 0, 0, 255};
+    uint8_t out[5] = {7, 7, 7, 7, 7};
+    haythaw_answer answer = haythaw_view_to_rgba_limited(1, 1, 1, 1, view_y, 4, view_u, 2, view_v, 2, out, 3);
+    check(answer.number == HAYTHAW_OUTPUT_SHORT && answer.count == 0 && out[0] == 7, "view_to_rgba_limited", "a refusal");
+    answer = haythaw_view_to_rgba_limited(1, 1, 1, 1, view_y, 4, view_u, 2, view_v, 2, out, 5);
+    check(answer.number == HAYTHAW_DONE && answer.count == 4 && memcmp(out, red, 4) == 0 && out[4] == 7, "view_to_rgba_limited", "an answer");
+    answer = haythaw_view_to_rgba_limited(1, 1, 2, 2, view_y + 2, 2, dark_u, 2, dark_v, 2, out, 4);
+    check(answer.number == HAYTHAW_DONE && answer.count == 4 && memcmp(out, black, 4) == 0, "view_to_rgba_limited", "black");
+}
+
 /* An apply call: the five that clip and the five that are strict have the same parameters. */
 typedef uint32_t Applying(uint16_t, uint16_t, uint8_t *, size_t, uint8_t *, size_t, uint8_t *, size_t, uint8_t *, size_t, const uint16_t *,
                           size_t, uint16_t, uint16_t, size_t, size_t, const uint8_t *, size_t, const uint8_t *, size_t, const uint8_t *, size_t);
@@ -409,6 +433,7 @@ static void each_result_type(void)
     result_of_avc444();
     result_of_write();
     result_of_picture();
+    result_of_limited();
     result_of_views_applied();
     result_of_split();
     result_of_split_32();

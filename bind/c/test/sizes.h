@@ -112,14 +112,14 @@ static uint32_t the_number(enum call call, const Args *a)
 {
     switch (call) {
     case NEW: return picture_short(a) ? 1 : 0;
-    case FROM_RGBA: case FROM_RGBA_RUST: return a->count[RGBA] < (size_t)4 * a->width * a->height ? 2 : picture_short(a) ? 1 : 0;
+    case FROM_RGBA: case FROM_RGBA_RUST: case FROM_RGBA_LIMITED: return a->count[RGBA] < (size_t)4 * a->width * a->height ? 2 : picture_short(a) ? 1 : 0;
     case TO_RGBA: return picture_short(a) ? 1 : a->count[OUT] < clipped(a) ? 6 : 0;
     case MAIN: case AUX_V1: case AUX_V2: case AUX_V2_32: case AUX_V2_EXACT:
     case MAIN_STRICT: case AUX_V1_STRICT: case AUX_V2_STRICT: case AUX_V2_32_STRICT: case AUX_V2_EXACT_STRICT: return apply_number(call, a);
     case FIRST_UNSOUND: return list_number(call, a);
     case SPLIT_V1: case SPLIT_V2: case SPLIT_V2_32: return split_number(call, a);
     case CHECK_V1: case CHECK_V2: case CHECK_V2_32: return check_number(call, a);
-    case VIEW_TO_RGBA:
+    case VIEW_TO_RGBA: case VIEW_TO_RGBA_LIMITED:
         return view_number(a) != 0 ? view_number(a) : a->count[OUT] < (size_t)4 * a->view_width * a->view_height ? 6 : 0;
     case VIEW: case LUMA_ROW: case U_ROW: case V_ROW: return view_number(a);
     default: return 0;
@@ -138,9 +138,11 @@ static void by_table(enum call call, const Args *a, const char *what)
         const Result want = check_by_rule(call, a);
         check(same_checked(&r, &want) && lent_kept(), call_names[call], what);
     }
-    else
-        check(r.number == 0 && r.count == (call == TO_RGBA ? clipped(a) : call == VIEW_TO_RGBA ? (size_t)4 * a->view_width * a->view_height : 0),
+    else {
+        const bool of_view = call == VIEW_TO_RGBA || call == VIEW_TO_RGBA_LIMITED;
+        check(r.number == 0 && r.count == (call == TO_RGBA ? clipped(a) : of_view ? (size_t)4 * a->view_width * a->view_height : 0),
               call_names[call], what);
+    }
 }
 
 /* Pictures of every size from nothing to the largest, with planes of 512 bytes and views of as many, and with none. */
@@ -174,8 +176,8 @@ static void view_sizes(void)
     static const size_t strides[] = {0, 1, 3, 7, 65535, SIZE_MAX / 2 + 1, 6148914691236517206u, SIZE_MAX - 1, SIZE_MAX};
     enum { SIDES = sizeof sides / sizeof *sides, STRIDES = sizeof strides / sizeof *strides };
     static const uint16_t rects[8] = {0, 0, 65535, 65535, 3, 1, 5, 2}, sound[8] = {0, 0, 17, 3, 3, 1, 5, 2};
-    static const enum call calls[] = {VIEW, LUMA_ROW, U_ROW, V_ROW, VIEW_TO_RGBA, MAIN, AUX_V1, AUX_V2, AUX_V2_32, AUX_V2_EXACT,
-                                      MAIN_STRICT, AUX_V1_STRICT, AUX_V2_STRICT, AUX_V2_32_STRICT, AUX_V2_EXACT_STRICT};
+    static const enum call calls[] = {VIEW, LUMA_ROW, U_ROW, V_ROW, VIEW_TO_RGBA, VIEW_TO_RGBA_LIMITED, MAIN, AUX_V1, AUX_V2, AUX_V2_32,
+                                      AUX_V2_EXACT, MAIN_STRICT, AUX_V1_STRICT, AUX_V2_STRICT, AUX_V2_32_STRICT, AUX_V2_EXACT_STRICT};
     Args a = {0};
     picture(&a, 17, 3, 512);
     for (int s = VIEW_Y; s <= OUT; s++)
@@ -245,8 +247,8 @@ static void longest_sides(void)
         by_table(TO_RGBA, &a, "the longest side");
         check(memcmp((uint8_t *)a.at[OUT] + 65534 * 4, black, 4) == 0, "to_rgba", "the last pixel of the longest side");
         a.at[RGBA] = a.at[OUT], a.count[RGBA] = a.count[OUT];
-        by_table(FROM_RGBA, &a, "the longest side");
-        by_table(FROM_RGBA_RUST, &a, "the longest side");
+        for (int call = FROM_RGBA; call <= FROM_RGBA_LIMITED; call++)
+            by_table((enum call)call, &a, "the longest side");
         by_table(SPLIT_V1, &a, "the longest side");
         by_table(SPLIT_V2, &a, "the longest side");
         by_table(SPLIT_V2_32, &a, "the longest side");
