@@ -6,7 +6,7 @@
 use core::fmt;
 
 use crate::check::{CheckedPlane, CheckedView, SplitCheck};
-use crate::decode::{DecoderError, DecoderResult, Yuv420Frame};
+use crate::decode::{DecoderError, DecoderResult, Yuv420Frame, YuvMatrix};
 use crate::geometry::{ExclusiveRectangle, RectangleFault, UnsoundRectangle};
 use crate::library::{self, Size};
 pub use crate::output::OutputError;
@@ -163,6 +163,36 @@ impl Yuv444Frame {
     /// ```
     pub fn from_rgba_filled(rgba: &[u8], width: u16, height: u16) -> Option<Self> {
         Self::of_pixels(library::from_rgba, rgba, width, height)
+    }
+
+    /// The picture with its edge filled, by the matrix and in the range that its samples are to have, which the original has no call for.
+    ///
+    /// By [`YuvMatrix::Bt709Full`] it is [`Self::from_rgba_filled`]. By [`YuvMatrix::Bt601Limited`] it has samples as MS-RDPEVOR's video: Y is
+    /// `(66 * r + 129 * g + 25 * b + 128) / 256 + 16`, U `(-38 * r - 74 * g + 112 * b + 128) / 256 + 128` and V
+    /// `(112 * r - 94 * g - 18 * b + 128) / 256 + 128`, each quotient rounded down. Such a picture is to be split and sent, and its main view
+    /// shown by [`Yuv420Frame::to_rgba_with`]: [`Self::to_rgba`] takes every picture for one of full range.
+    ///
+    /// `None` when `rgba` is shorter than `width * height * 4` bytes.
+    ///
+    /// ```
+    /// use haythaw::avc444::{Avc444Layout, Yuv444Frame};
+    /// use haythaw::decode::YuvMatrix;
+    ///
+    /// let red = [255, 0, 0, 255].repeat(5 * 3);
+    /// let clip = Yuv444Frame::from_rgba_with(YuvMatrix::Bt601Limited, &red, 5, 3).expect("5 x 3 pixels");
+    /// let (main, _) = clip.split(Avc444Layout::V1)?;
+    /// assert_eq!((main.luma_row(0), main.u_row(0), main.v_row(0)), (Some(&[82; 16][..]), Some(&[90; 8][..]), Some(&[240; 8][..])));
+    /// assert_eq!(main.to_rgba_with(YuvMatrix::Bt601Limited).data()[..4], [255, 1, 0, 255]);
+    ///
+    /// assert!(Yuv444Frame::from_rgba_with(YuvMatrix::Bt601Limited, &red[1..], 5, 3).is_none());
+    /// # Ok::<(), haythaw::decode::DecoderError>(())
+    /// ```
+    pub fn from_rgba_with(matrix: YuvMatrix, rgba: &[u8], width: u16, height: u16) -> Option<Self> {
+        let make = match matrix {
+            YuvMatrix::Bt601Limited => library::from_rgba_limited,
+            YuvMatrix::Bt709Full => library::from_rgba,
+        };
+        Self::of_pixels(make, rgba, width, height)
     }
 
     /// Bytes that [`Self::new`] allocates for the three planes of a picture of this size; its [map](Self::map) takes a twelfth of it more.

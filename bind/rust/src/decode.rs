@@ -68,6 +68,17 @@ impl fmt::Debug for DecodedFrame {
     }
 }
 
+/// Which matrix and range the samples of a picture have.
+///
+/// A stream's kind says it, and no sample does: a picture that is shown by the other one has wrong colours.
+#[derive(Debug, Clone, Copy, PartialEq, Eq)]
+pub enum YuvMatrix {
+    /// ITU-R BT.601 in limited range, as MS-RDPEVOR's video has it: Y is 16 for black and 235 for white.
+    Bt601Limited,
+    /// ITU-R BT.709 in full range, as the AVC420 and AVC444 streams of MS-RDPEGFX have it.
+    Bt709Full,
+}
+
 /// The planes of a decoded YUV 4:2:0 picture: one view of an AVC444 picture, or an AVC420 picture.
 ///
 /// Width and height of a chroma plane are the halves of the picture's, rounded up. Bytes of a plane between its width and its stride,
@@ -161,6 +172,31 @@ impl Yuv420Frame {
     /// ```
     pub fn to_rgba(&self) -> DecodedFrame {
         self.as_view().to_rgba()
+    }
+
+    /// The same with the matrix and the range that the picture's samples have, which the original has no call for.
+    ///
+    /// By [`YuvMatrix::Bt709Full`] it is [`Self::to_rgba`]. By [`YuvMatrix::Bt601Limited`], as MS-RDPEVOR's video has it, with
+    /// `c = 298 * (y - 16)`, `d = u - 128` and `e = v - 128`: red is `(c + 409 * e + 128) / 256`, green
+    /// `(c - 100 * d - 208 * e + 128) / 256` and blue `(c + 516 * d + 128) / 256`, each rounded down and clamped.
+    ///
+    /// ```
+    /// use haythaw::decode::{Yuv420Frame, YuvMatrix};
+    ///
+    /// // Black, white and red of a lecture clip; a chroma sample is shared by two pixels of a row.
+    /// let y = vec![16, 235, 82, 82];
+    /// let clip = Yuv420Frame::new(4, 1, y, 4, vec![128, 90], vec![128, 240], 2)?;
+    /// let shown = clip.to_rgba_with(YuvMatrix::Bt601Limited);
+    /// let (black, white, red) = ([0, 0, 0, 255], [255; 4], [255, 1, 0, 255]);
+    /// assert_eq!(shown.data(), [black, white, red, red].concat());
+    ///
+    /// // By the other matrix black is grey, and white is not white.
+    /// assert_eq!(clip.to_rgba().data()[..8], [16, 16, 16, 255, 235, 235, 235, 255]);
+    /// assert_eq!(clip.to_rgba().data(), clip.to_rgba_with(YuvMatrix::Bt709Full).data());
+    /// # Ok::<(), haythaw::decode::DecoderError>(())
+    /// ```
+    pub fn to_rgba_with(&self, matrix: YuvMatrix) -> DecodedFrame {
+        self.as_view().to_rgba_with(matrix)
     }
 
     /// The same picture over these planes, which are lent and not copied.

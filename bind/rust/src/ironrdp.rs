@@ -3,7 +3,7 @@
 /// Writes conversions between IronRDP's types and this crate's, where it stands.
 ///
 /// It is there with the feature `ironrdp`, and this crate depends on none of IronRDP's all the same. The types are those that the caller names, of whatever version of theirs it has: any of
-/// `ironrdp_pdu`'s `ExclusiveRectangle`, and `ironrdp_egfx`'s `Yuv420Frame` and `DecodedFrame`, in this order. There will be two
+/// `ironrdp_pdu`'s `ExclusiveRectangle`, and `ironrdp_egfx`'s `Yuv420Frame`, `DecodedFrame` and `YuvMatrix`, in this order. There will be two
 /// traits for them, `IntoHaythaw` and `IntoIronrdp`, each for the crate that they stand in alone.
 ///
 /// | theirs | `into_haythaw` | `into_ironrdp` |
@@ -12,6 +12,7 @@
 /// | `&[ExclusiveRectangle]` | a `Vec` | a `Vec` |
 /// | `&Yuv420Frame` | its rows are copied, since it does not lend its planes | from [`Yuv420Frame`]: its planes are moved |
 /// | `DecodedFrame` | its bytes are moved | its bytes are moved |
+/// | `YuvMatrix` | the case of the same name | the case of the same name |
 ///
 /// A decoder that lends planes needs no copy: [`Yuv420View`] takes them where they are.
 ///
@@ -39,7 +40,7 @@
 /// [`Yuv420View`]: crate::decode::Yuv420View
 #[macro_export]
 macro_rules! ironrdp_types {
-    ($(rectangle: $rectangle:ty,)? $(view: $view:ty,)? $(frame: $frame:ty,)?) => {
+    ($(rectangle: $rectangle:ty,)? $(view: $view:ty,)? $(frame: $frame:ty,)? $(matrix: $matrix:ty,)?) => {
         /// A type of IronRDP's that has one of haythaw's for it.
         #[allow(dead_code)]
         pub(crate) trait IntoHaythaw {
@@ -132,6 +133,30 @@ macro_rules! ironrdp_types {
                 fn into_ironrdp(self) -> Self::Ironrdp {
                     let (width, height) = (self.width(), self.height());
                     <$frame>::new(self.into_data(), width, height)
+                }
+            }
+        )?
+
+        $(
+            impl IntoHaythaw for $matrix {
+                type Haythaw = $crate::YuvMatrix;
+                fn into_haythaw(self) -> Self::Haythaw {
+                    type Theirs = $matrix;
+                    match self {
+                        Theirs::Bt601Limited => $crate::YuvMatrix::Bt601Limited,
+                        Theirs::Bt709Full => $crate::YuvMatrix::Bt709Full,
+                    }
+                }
+            }
+
+            impl IntoIronrdp for $crate::YuvMatrix {
+                type Ironrdp = $matrix;
+                fn into_ironrdp(self) -> Self::Ironrdp {
+                    type Theirs = $matrix;
+                    match self {
+                        Self::Bt601Limited => Theirs::Bt601Limited,
+                        Self::Bt709Full => Theirs::Bt709Full,
+                    }
                 }
             }
         )?

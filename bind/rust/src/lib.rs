@@ -29,7 +29,7 @@ pub use crate::{
         Avc444Payload, PayloadKind, PayloadParts, QuantQuality, ReadError, Stream, StreamParts, WriteError,
     },
     check::{CheckedPlane, CheckedView, SplitCheck},
-    decode::{DecodedFrame, DecoderError, DecoderResult, Yuv420Frame},
+    decode::{DecodedFrame, DecoderError, DecoderResult, Yuv420Frame, YuvMatrix},
     geometry::{ExclusiveRectangle, RectangleFault, UnsoundRectangle},
     pdu::{avc_to_annex_b_into, is_avc_format},
 };

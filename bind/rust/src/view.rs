@@ -3,7 +3,7 @@
 use core::fmt;
 use core::ops::Deref;
 
-use crate::decode::{DecodedFrame, DecoderError, DecoderResult, Yuv420Frame};
+use crate::decode::{DecodedFrame, DecoderError, DecoderResult, Yuv420Frame, YuvMatrix};
 use crate::library::{self, Row, View};
 
 /// A YUV 4:2:0 picture over planes that are somebody else's, as a decoder's output, which nothing copies.
@@ -115,9 +115,27 @@ impl<'a> Yuv420View<'a> {
 
     /// Converts the picture to RGBA, as [`Yuv420Frame::to_rgba`] does.
     pub fn to_rgba(&self) -> DecodedFrame {
+        self.to_rgba_with(YuvMatrix::Bt709Full)
+    }
+
+    /// The same with the matrix and the range that the picture's samples have, as [`Yuv420Frame::to_rgba_with`] does.
+    ///
+    /// ```
+    /// use haythaw::decode::{Yuv420View, YuvMatrix};
+    ///
+    /// // What a decoder of video lends: blue, in a luma row of 4 bytes.
+    /// let view = Yuv420View::new(2, 1, 4, 1, &[41, 41, 0, 0], &[240], &[110])?;
+    /// assert_eq!(view.to_rgba_with(YuvMatrix::Bt601Limited).data(), [0, 0, 255, 255].repeat(2));
+    /// # Ok::<(), haythaw::decode::DecoderError>(())
+    /// ```
+    pub fn to_rgba_with(&self, matrix: YuvMatrix) -> DecodedFrame {
+        let convert = match matrix {
+            YuvMatrix::Bt601Limited => library::view_to_rgba_limited,
+            YuvMatrix::Bt709Full => library::view_to_rgba,
+        };
         let (width, height) = (self.width(), self.height());
         let mut rgba = vec![0; usize::from(width) * usize::from(height) * 4];
-        let answer = library::view_to_rgba(self.0, &mut rgba);
+        let answer = convert(self.0, &mut rgba);
         library::done("view_to_rgba", answer.number);
         rgba.truncate(answer.count);
         DecodedFrame::new(rgba, u32::from(width), u32::from(height))

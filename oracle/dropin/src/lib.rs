@@ -59,6 +59,7 @@ mod convert {
         rectangle: ironrdp_pdu::geometry::ExclusiveRectangle,
         view: original::decode::Yuv420Frame,
         frame: original::decode::DecodedFrame,
+        matrix: original::decode::YuvMatrix,
     }
 }
 
@@ -102,6 +103,19 @@ mod tests {
                 assert_eq!(shown.data(), ours.to_rgba().data());
                 assert_eq!(shown.into_ironrdp().data(), theirs.to_rgba().data());
             }
+        }
+    }
+
+    #[test]
+    fn a_matrix_goes_over_and_back() {
+        use original::decode::YuvMatrix as Theirs;
+        for (theirs, ours) in [
+            (Theirs::Bt601Limited, haythaw::YuvMatrix::Bt601Limited),
+            (Theirs::Bt709Full, haythaw::YuvMatrix::Bt709Full),
+        ] {
+            assert_eq!(theirs.into_haythaw(), ours);
+            assert_eq!(ours.into_ironrdp(), theirs);
+            assert_eq!(format!("{theirs:?}"), format!("{ours:?}"));
         }
     }
 

@@ -49,4 +49,6 @@ making! {
     haythaw_from_rgba;
     /// The picture of RGBA pixels as the Rust original has it, with padding as in a fresh picture. 0, 2 or 1.
     haythaw_from_rgba_rust;
+    /// The picture of RGBA pixels in limited range, its edge filled. 0, 2 or 1.
+    haythaw_from_rgba_limited;
 }

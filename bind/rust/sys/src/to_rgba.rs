@@ -1,4 +1,4 @@
-//! Both conversions to RGBA.
+//! The conversions to RGBA, of a picture and of a view.
 
 use crate::Answer;
 
@@ -38,19 +38,33 @@ unsafe extern "C" {
         out: *mut u8,
         out_count: usize,
     ) -> Pixels;
+}
+
+/// Declares functions that make RGBA of a whole view.
+macro_rules! of_views {
+    ($($(#[$about:meta])* $symbol:ident;)*) => {
+        unsafe extern "C" {
+            $($(#[$about])* pub fn $symbol(
+                view_width: u16,
+                view_height: u16,
+                luma_stride: usize,
+                chroma_stride: usize,
+                view_y: *const u8,
+                view_y_count: usize,
+                view_u: *const u8,
+                view_u_count: usize,
+                view_v: *const u8,
+                view_v_count: usize,
+                out: *mut u8,
+                out_count: usize,
+            ) -> Answer;)*
+        }
+    };
+}
+
+of_views! {
     /// A whole view. 0, 3, 4 or 6.
-    pub fn haythaw_view_to_rgba(
-        view_width: u16,
-        view_height: u16,
-        luma_stride: usize,
-        chroma_stride: usize,
-        view_y: *const u8,
-        view_y_count: usize,
-        view_u: *const u8,
-        view_u_count: usize,
-        view_v: *const u8,
-        view_v_count: usize,
-        out: *mut u8,
-        out_count: usize,
-    ) -> Answer;
+    haythaw_view_to_rgba;
+    /// A whole view in limited range. 0, 3, 4 or 6.
+    haythaw_view_to_rgba_limited;
 }

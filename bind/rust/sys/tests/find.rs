@@ -37,7 +37,7 @@ fn any_other_target_is_refused_in_one_line() {
 
 #[test]
 fn a_version_stands_behind_its_mark() {
-    assert_eq!(version(b"\x7fELF\0haythaw-version-0.4.0\0more"), Some("0.4.0".to_owned()));
+    assert_eq!(version(b"\x7fELF\0haythaw-version-0.5.0\0more"), Some("0.5.0".to_owned()));
     assert_eq!(version(b"haythaw-version-1.20.3-rc.1"), Some("1.20.3-rc.1".to_owned()));
     assert_eq!(version(b"haythaw-version-"), Some(String::new()));
     assert_eq!(version(b"haythaw_version"), None);
