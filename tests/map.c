@@ -20,7 +20,7 @@
 #include "haythaw.h"
 
 enum { PLANES = 3, BUFFERS = 4, HEAD = 13, CALL = 55 };
-enum { NEW, FROM_RGBA, FROM_RGBA_RUST, TO_RGBA, MAIN, AUX_V1, AUX_V2, AUX_V2_32, AUX_V2_EXACT,
+enum { NEW, FROM_RGBA, FROM_RGBA_RUST, FROM_RGBA_LIMITED, TO_RGBA, MAIN, AUX_V1, AUX_V2, AUX_V2_32, AUX_V2_EXACT,
        MAIN_STRICT, AUX_V1_STRICT, AUX_V2_STRICT, AUX_V2_32_STRICT, AUX_V2_EXACT_STRICT, CALLS };
 
 typedef struct { uint8_t *at; size_t count; } Lent;
@@ -71,7 +71,8 @@ typedef uint32_t Apply(uint16_t, uint16_t, uint8_t *, size_t, uint8_t *, size_t,
 
 static haythaw_pixels called(int call, Picture *p, const size_t count[BUFFERS], const View *v, Lent rgba, const uint16_t *list, size_t numbers)
 {
-    static From *const from[] = {[FROM_RGBA] = haythaw_from_rgba, [FROM_RGBA_RUST] = haythaw_from_rgba_rust};
+    static From *const from[] = {[FROM_RGBA] = haythaw_from_rgba, [FROM_RGBA_RUST] = haythaw_from_rgba_rust,
+                                 [FROM_RGBA_LIMITED] = haythaw_from_rgba_limited};
     static Apply *const apply[] = {[MAIN] = haythaw_apply_main_view, [AUX_V1] = haythaw_apply_auxiliary_v1,
                                    [AUX_V2] = haythaw_apply_auxiliary_v2, [AUX_V2_32] = haythaw_apply_auxiliary_v2_32,
                                    [AUX_V2_EXACT] = haythaw_apply_auxiliary_v2_exact,

@@ -7,7 +7,7 @@ those past it included, have to be what the model says.
   tests/map_cases.py --only N [--seed N]   one sequence again, with its calls and what was answered
 
 A sequence is a picture, 0 to 40 wide and high, odd sides often, seldom larger, and once in a while up to 65,535; made fresh, made of RGBA by
-either call, or found with any bytes in its map. Then come one to eight calls: main views, auxiliary views of V1 and of V2 by each of the three
+each call, or found with any bytes in its map. Then come one to eight calls: main views, auxiliary views of V1 and of V2 by each of the three
 rules, one in three of them strict, and pictures to RGBA; with views that are smaller, cropped, as large or larger, or empty, and lists of up to
 four rectangles, empty, reversed, odd and off the picture among them; those of the strict calls are mostly sound, or but for one. Some calls are to
 be refused, for one reason or several at once.
@@ -193,14 +193,14 @@ class Sequence:
         picture.before = random.randbytes(blocks)
         if begun == 0:                                  # any bytes, 0, 1 and 2 mostly
             picture.before = picture.before.translate(MOSTLY)
-        self.calls = [] if begun == 0 else [pixels_call(picture, NEW if begun < 3 else FROM_RGBA + below(2))]
+        self.calls = [] if begun == 0 else [pixels_call(picture, NEW if begun < 3 else FROM_RGBA + below(3))]
         layout = AUX_V1 + below(4)                      # mostly the auxiliary views of a sequence are of one layout
         for _ in range(1 + below(8)):
             which = below(10)
             self.calls.append(pixels_call(picture, TO_RGBA) if which < 2 else
                               apply_call(picture, layout) if which < 6 else
                               apply_call(picture, MAIN + below(5)) if which < 7 else
-                              pixels_call(picture, NEW + below(3)) if which == 9 and below(6) == 0 else
+                              pixels_call(picture, NEW + below(4)) if which == 9 and below(6) == 0 else
                               apply_call(picture, MAIN))
 
     def given(self):

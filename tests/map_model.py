@@ -3,9 +3,10 @@ call has to answer and which map it has to leave. It works place by place: each 
 a byte for every block, so that a call is a few operations on such numbers. Then models that get one of the words wrong."""
 import struct
 
-CALLS = NEW, FROM_RGBA, FROM_RGBA_RUST, TO_RGBA, MAIN, AUX_V1, AUX_V2, AUX_V2_32, AUX_V2_EXACT = range(9)
+CALLS = NEW, FROM_RGBA, FROM_RGBA_RUST, FROM_RGBA_LIMITED, TO_RGBA, MAIN, AUX_V1, AUX_V2, AUX_V2_32, AUX_V2_EXACT = range(10)
 STRICT = 5                                      # by so many a strict call comes after the one that clips, in tests/map.c
-NAMES = 'new', 'from_rgba', 'from_rgba_rust', 'to_rgba', 'main', 'auxiliary v1', 'auxiliary v2', 'auxiliary v2 32', 'auxiliary v2 exact'
+NAMES = ('new', 'from_rgba', 'from_rgba_rust', 'from_rgba_limited', 'to_rgba', 'main', 'auxiliary v1', 'auxiliary v2', 'auxiliary v2 32',
+         'auxiliary v2 exact')
 DONE, PLANE_SHORT, RGBA_SHORT, VIEW_NARROW, VIEW_SHORT, OUTPUT_SHORT, LIST_UNEVEN, RECT_UNSOUND = 0, 1, 2, 3, 4, 6, 7, 12
 CALL = struct.Struct('<B4IHHQQ3IIH')            # a call and an answer as tests/map.c has them
 ANSWER = struct.Struct('<IQQB')
@@ -171,7 +172,7 @@ class Model:
 
     def refusals(self, picture, call):
         """The numbers of the reasons for a refusal, in their order."""
-        if call.which in (FROM_RGBA, FROM_RGBA_RUST):
+        if call.which in (FROM_RGBA, FROM_RGBA_RUST, FROM_RGBA_LIMITED):
             yield RGBA_SHORT, call.rgba < 4 * picture.width * picture.height
         yield PLANE_SHORT, self.short(picture, call)
         if call.which == TO_RGBA:
@@ -190,7 +191,7 @@ class Model:
                 return number
         return DONE
 
-    made = {NEW: b'\0', FROM_RGBA: b'\2', FROM_RGBA_RUST: b'\2'}       # R77
+    made = {NEW: b'\0', FROM_RGBA: b'\2', FROM_RGBA_RUST: b'\2', FROM_RGBA_LIMITED: b'\2'}       # R77
 
     def after(self, picture, call, before):
         """The map after a call that is done."""
@@ -357,6 +358,10 @@ class FreshIsComplete(Model):
 
 class RgbaIsStale(Model):
     made = {**Model.made, FROM_RGBA_RUST: b'\1'}
+
+
+class LimitedIsStale(Model):
+    made = {**Model.made, FROM_RGBA_LIMITED: b'\1'}
 
 
 class StaleBlocks(Model):

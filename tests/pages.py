@@ -104,7 +104,7 @@ def check(root):
 PLANTED = [
     ('docs/proved/colour.md', '`forwardOf`', '`forwardsOf`', 'has no `forwardsOf`'),
     ('docs/proved/colour.md', 'colour/proofs/Floor.antt', 'colour/proofs/Ceiling.antt', 'there is no crates/colour/proofs/Ceiling.antt'),
-    ('docs/proved/colour.md', '| R30 |', '| R39 |', 'R39 is no rule'),
+    ('docs/proved/colour.md', '| R30 |', '| R999 |', 'R999 is no rule'),
     ('docs/proved/colour.md', '| R34 |', '| R35 |', 'no row for R34'),
     ('docs/RULES.md', '| R10 |', '| R11 |', 'no row for R11'),
     ('docs/proved/view.md', '(../RULES.md)', '(../RULE.md)', 'a link leads nowhere'),
