@@ -109,6 +109,14 @@ impl Pass {
     }
 }
 
+/// The bound of a row in a table of weighings, if it names one.
+pub const fn bound(bounds: &[f64]) -> Option<f64> {
+    match bounds {
+        [bound] => Some(*bound),
+        _ => None,
+    }
+}
+
 /// What `scale` weighs, in words.
 pub const SCALES: &str = "3840x2160 against 640x480";
 

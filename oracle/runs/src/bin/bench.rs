@@ -7,12 +7,12 @@
 use std::process::ExitCode;
 
 use runs::bench::Timed;
-use runs::suites::{BENCHES, CHECKS, PAYLOADS, WEIGHINGS, WRITES};
+use runs::suites::{BENCHES, CHECKS, LIMITED, PAYLOADS, WEIGHINGS, WRITES};
 
 const ROUNDS: u32 = 41;
 
 fn main() -> ExitCode {
-    let weighings = || WEIGHINGS.iter().chain(CHECKS).chain(PAYLOADS).chain(WRITES);
+    let weighings = || WEIGHINGS.iter().chain(CHECKS).chain(LIMITED).chain(PAYLOADS).chain(WRITES);
     let mut names: Vec<&str> =
         BENCHES.iter().map(|bench| bench.name).chain(weighings().map(|weighing| weighing.name)).collect();
     names.sort_unstable();

@@ -14,6 +14,7 @@ mod filter;
 mod forward;
 pub(crate) mod from_rgba;
 mod lengths;
+mod limited;
 mod lists;
 mod look;
 mod map;
@@ -139,6 +140,9 @@ pub const WEIGHINGS: &[Weighing] = &[
 
 /// The checks of two views against the split.
 pub const CHECKS: &[Weighing] = check::WEIGHINGS;
+
+/// Limited range against full range.
+pub const LIMITED: &[Weighing] = limited::WEIGHINGS;
 
 /// The reader of the AVC444 payload against plain Rust.
 pub const PAYLOADS: &[Weighing] = &[

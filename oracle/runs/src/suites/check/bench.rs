@@ -7,7 +7,7 @@ use std::rc::Rc;
 
 use super::case::Call;
 use super::{V1, V2, V2_32};
-use crate::bench::{Pass, Weighing};
+use crate::bench::{bound, Pass, Weighing};
 use crate::ours::View;
 use crate::suites::noise::{Noise, LONGEST};
 use crate::suites::pictures::Sizes;
@@ -29,13 +29,6 @@ pub const WEIGHINGS: &[Weighing] = weighings! {
     "check_v2" V2 against "split_v2": 1920 x 1080 1.5, 640 x 480, 128 x 128, 48 x 48, 16 x 16;
     "check_v2_32" V2_32 against "split_v2_32": 1920 x 1080 1.5, 640 x 480, 128 x 128, 48 x 48, 16 x 16;
 };
-
-const fn bound(bounds: &[f64]) -> Option<f64> {
-    match bounds {
-        [bound] => Some(*bound),
-        _ => None,
-    }
-}
 
 /// The check and the split, each so often in a pass that it has about as many pixels as a large frame.
 fn beside(call: &'static Call, width: u16, height: u16) -> [Pass; 2] {
