@@ -224,6 +224,20 @@ def reverse_of(y, u, v):
     return tuple(clamp((256 * y + product) // 256) for product in (red_product(v), green_u_product(u) + green_v_product(v), blue_product(u)))
 
 
+# --- The rules: colour/specs/Limited.antt.
+
+def limited_forward_of(r, g, b):
+    """Y, U and V of limited range; nothing is clamped."""
+    return ((66 * r + 129 * g + 25 * b + 128) // 256 + 16, (-38 * r - 74 * g + 112 * b + 128) // 256 + 128,
+            (112 * r - 94 * g - 18 * b + 128) // 256 + 128)
+
+
+def limited_reverse_of(y, u, v):
+    """Red, green and blue of limited range."""
+    c, u, v = 298 * (y - 16), u - 128, v - 128
+    return tuple(clamp((c + product + 128) // 256) for product in (409 * v, -100 * u - 208 * v, 516 * u))
+
+
 # --- The pen: a colour as SVG writes it; and each further call answers a piece of SVG.
 
 def hexadecimal(colour):
@@ -947,11 +961,50 @@ def draw_products():
     return picture(620, 'The four products over the chroma byte', f'Straight lines through 0 at the chroma byte 128. {ends}.', out)
 
 
+# --- ranges.svg: a colour by the right and by the wrong range.
+
+SHOWN = [('black', (0, 0, 0)), ('grey', (64, 64, 64)), ('grey', (128, 128, 128)), ('white', (255, 255, 255)), ('red', (255, 0, 0)),
+         ('green', (0, 255, 0)), ('blue', (0, 0, 255)), ('magenta', (255, 0, 255))]
+READINGS = [(None, None, 'drawn', ''), (forward_of, reverse_of, 'full range,', 'read as full'),
+            (limited_forward_of, limited_reverse_of, 'limited range,', 'read as limited'),
+            (limited_forward_of, reverse_of, 'limited range,', 'read as full: pale'),
+            (forward_of, limited_reverse_of, 'full range,', 'read as limited: harsh')]
+
+
+def range_bar(x, y, name, low, high):
+    """The bytes 0 to 255, of which limited range has those from low to high."""
+    return (box(x, y, 256, 16, PALE, GREY) + box(x + low, y, high - low + 1, 16, SKY, INK) + text(x - 8, y + 13, name, 12, 'end')
+            + text(x + low, y + 30, low, 11, 'middle') + text(x + high, y + 30, high, 11, 'middle'))
+
+
+def reading(forward, back, colour):
+    """The colour as it is shown, and its Y, U and V."""
+    sent = forward(*colour) if forward else None
+    return (back(*sent), ' '.join(map(str, sent))) if sent else (colour, '')
+
+
+def draw_ranges():
+    left, wide, high = 170, 88, 66
+    out = [range_bar(300, 46, 'Y of limited range', 16, 235), range_bar(620, 46, 'U and V', 16, 240)]
+    for row, (forward, back, *words) in enumerate(READINGS):
+        y = 96 + row * (high + 10)
+        out.append(lines(14, y + high / 2 - 4, words, 13, 18))
+        for i, (name, colour) in enumerate(SHOWN):
+            shown, sent = reading(forward, back, colour)
+            x, ink = left + i * (wide + 3), ink_on(shown)
+            said = [name if row == 0 else hexadecimal(shown), hexadecimal(colour) if row == 0 else sent]
+            out.append(box(x, y, wide, high, hexadecimal(shown), GREY) + lines(x + wide / 2, y + 30, said, 12, 18, anchor='middle', fill=ink))
+    words = '; '.join(f'{first} {second}'.strip() + ': ' + ', '.join(hexadecimal(reading(forward, back, colour)[0]) for _, colour in SHOWN)
+                      for forward, back, first, second in READINGS)
+    return picture(482, 'Two ranges: the same colours by the right call and by the wrong one',
+                   f'Limited range has Y from 16 to 235 and U and V from 16 to 240. {words}.', out)
+
+
 # --- The files.
 
 DRAWINGS = {'v1.svg': lambda: draw_layout(V1), 'v2.svg': lambda: draw_layout(V2), 'v2_width.svg': draw_v2_width, 'widening.svg': draw_widening,
             'map.svg': draw_map, 'strict.svg': draw_strict, 'check.svg': draw_check,
-            'payload.svg': draw_payload, 'filter.svg': draw_filter, 'products.svg': draw_products}
+            'payload.svg': draw_payload, 'filter.svg': draw_filter, 'products.svg': draw_products, 'ranges.svg': draw_ranges}
 
 
 def main():
