@@ -6,13 +6,13 @@ ghost use Rattle.std.specs.Prelude.{◌≡◌, ◌+◌, ◌≤◌, ◌<◌, leng
 ghost use Rattle.annex_b.specs.Units.{unit_length_of, values_of, step_of};
 
 // The position that moves from unit to unit.
-#[derive(Drop)]
+#[derive(Clone, Copy)]
 pub struct Cursor {
     pub at: usize,
 }
 
 // What a step of the cursor finds.
-#[derive(Drop)]
+#[derive(Clone, Copy)]
 pub enum Step {
     // A whole unit: its bytes are those from start to end, and next is the cursor past it.
     Whole {

@@ -17,14 +17,14 @@ use picture::Size;
 use view::View;
 
 // Which view of a pair.
-#[derive(Drop)]
+#[derive(Clone, Copy)]
 pub enum Sent {
     Main,
     Auxiliary,
 }
 
 // Which plane of a view.
-#[derive(Drop)]
+#[derive(Clone, Copy)]
 pub enum Name {
     YPlane,
     UPlane,
@@ -32,7 +32,7 @@ pub enum Name {
 }
 
 // A sample of a pair of views: view 0 is the main one and 1 the auxiliary one, plane 0 is Y, 1 is U and 2 is V.
-#[derive(Drop)]
+#[derive(Clone, Copy)]
 pub struct Where {
     pub view: u8,
     pub plane: u8,
@@ -41,7 +41,7 @@ pub struct Where {
 }
 
 // What is said of a pair: it is the split, its sizes are not those of the split's views, or a sample is wrong, the first one of all.
-#[derive(Drop)]
+#[derive(Clone, Copy)]
 pub enum Verdict {
     Same,
     Sizes,
@@ -50,7 +50,7 @@ pub enum Verdict {
 
 // What a check answers: 0 or the number of its refusal, whether the views are the split, whether a place is named, and the place.
 #[repr(C)]
-#[derive(Drop)]
+#[derive(Clone, Copy)]
 pub struct Checked {
     pub number: u32,
     pub same: bool,

@@ -14,7 +14,7 @@ ghost use Rattle.check_rows.specs.Rows.{Right, first_wrong, step_of, first_of};
 
 // Which samples of a row of the picture: of every second one the even columns or the odd ones, of every fourth one those from column 0
 // on or those between, from column 2 on.
-#[derive(Drop)]
+#[derive(Clone, Copy)]
 pub enum Taken {
     Evens,
     Odds,

@@ -25,14 +25,14 @@ ghost use Rattle.colour.specs.Products.{
 };
 
 // Which colour rules: full range, as AVC444 has them, or BT.601 of limited range, as video has them.
-#[derive(Drop)]
+#[derive(Clone, Copy)]
 pub enum Matrix {
     Full,
     Limited,
 }
 
 #[repr(C)]
-#[derive(Drop)]
+#[derive(Clone, Copy)]
 pub struct Yuv {
     pub y: u8,
     pub u: u8,
@@ -46,14 +46,14 @@ pub type Rgba = [u8; 4];
 pub type Table = [i32; 256];
 
 // The four chroma samples of a 2x2 block: the even-even one, then right, below, diagonal.
-#[derive(Drop)]
+#[derive(Clone, Copy)]
 pub struct Block {
     pub samples: [u8; 4],
 }
 
 // What the filter answers: the value, and whether it was applied.
 #[repr(C)]
-#[derive(Drop)]
+#[derive(Clone, Copy)]
 pub struct Undone {
     pub value: u8,
     pub applied: bool,

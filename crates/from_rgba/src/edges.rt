@@ -10,7 +10,7 @@ ghost use Rattle.lent.specs.Sizes.{round_up};
 ghost use Rattle.from_rgba.specs.Edges.{filled, edged, past_column, past_row};
 
 // What the padding holds when the averages are made: what a fresh picture has there, as in the Rust, or the nearest sample of the picture.
-#[derive(Drop)]
+#[derive(Clone, Copy)]
 pub enum Edge {
     Fresh,
     Filled,

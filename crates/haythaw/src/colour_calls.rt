@@ -6,7 +6,7 @@ use colour::{Block, Undone, Yuv};
 
 // A pixel over the boundary: red, green, blue, alpha.
 #[repr(C)]
-#[derive(Drop)]
+#[derive(Clone, Copy)]
 pub struct Pixel {
     pub bytes: [u8; 4],
 }

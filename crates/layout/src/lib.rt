@@ -9,28 +9,28 @@ ghost use Rattle.layout.specs.Maps.{upper_of, wide_of, layout_of, exact_layout_o
 ghost use Rattle.layout.specs.Exists.{v2_odds_below_of, v2_evens_below_of};
 
 // Which chroma plane of the picture.
-#[derive(Drop)]
+#[derive(Clone, Copy)]
 pub enum Chroma {
     CU,
     CV,
 }
 
 // How V2 finds its W: the view's width rounded up to 16, or the picture's rounded up to 32.
-#[derive(Drop)]
+#[derive(Clone, Copy)]
 pub enum WidthRule {
     To16,
     To32,
 }
 
 // Where an auxiliary view keeps the picture's chroma: V1, or V2 with its W, the width that is halved and quartered between U and V.
-#[derive(Drop)]
+#[derive(Clone, Copy)]
 pub enum Layout {
     V1,
     V2(usize),
 }
 
 // How a picture is sent: as V1, or as V2 by a rule (the Rust's Avc444Layout, whose V2 goes by the 16 rule).
-#[derive(Drop)]
+#[derive(Clone, Copy)]
 pub enum Way {
     AsV1,
     AsV2(WidthRule),

@@ -3,6 +3,8 @@
 // A call's outcome is an equation (specs/Outcome.antt), a plane after a call is `painted` (specs/Paint.antt), and a refusal is the first
 // number whose test holds (specs/Refusal.antt). The row writers promise every byte of the row that they are lent. Sizes are rounded
 // up, and buffers are found too short, for every size, stride and length, with no sum or product that wraps.
+#![tactic(auto)]
+
 pub mod words; // neighbouring bytes as one number
 pub mod long; // copies of many bytes
 pub mod twice; // two rows that are written alike
@@ -14,7 +16,7 @@ ghost use Rattle.lent.specs.Sizes.{round_up, half_up, too_short};
 
 // What a call answers: 0 or the number of its refusal, and a count, which is 0 in every refusal.
 #[repr(C)]
-#[derive(Drop)]
+#[derive(Clone, Copy)]
 pub struct Answer {
     pub number: u32,
     pub count: usize,

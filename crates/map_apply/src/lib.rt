@@ -19,7 +19,7 @@ use rects::{Area, Rect};
 use view::View;
 
 // How many blocks, across and down, a view has what a call needs of.
-#[derive(Drop)]
+#[derive(Clone, Copy)]
 pub struct Limits {
     pub across: usize,
     pub down: usize,

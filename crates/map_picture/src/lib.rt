@@ -16,7 +16,7 @@ use to_rgba::Rect;
 // What picture to RGBA answers: 0 or the number of its refusal, how many bytes it wrote, how many samples of U and of V the filter replaced,
 // and how many pixels lie in blocks that are not complete. In a refusal all counts are 0.
 #[repr(C)]
-#[derive(Drop)]
+#[derive(Clone, Copy)]
 pub struct Pixels {
     pub number: u32,
     pub count: usize,

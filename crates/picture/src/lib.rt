@@ -9,7 +9,7 @@ ghost use Rattle.picture.specs.Sizes.{stride_of, rows_of, allocation_size_of, pl
 ghost use Rattle.picture.specs.New.{new_number_of, NewOutcome};
 
 // A picture's width and height in pixels.
-#[derive(Drop)]
+#[derive(Clone, Copy)]
 pub struct Size {
     pub width: u16,
     pub height: u16,

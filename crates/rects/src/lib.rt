@@ -8,7 +8,7 @@ use picture::Size;
 use view::View;
 
 // A rectangle of a list: right and bottom are exclusive.
-#[derive(Drop)]
+#[derive(Clone, Copy)]
 pub struct Rect {
     pub left: u16,
     pub top: u16,
@@ -17,7 +17,7 @@ pub struct Rect {
 }
 
 // Rows from top to below bottom, columns from left to below right.
-#[derive(Drop)]
+#[derive(Clone, Copy)]
 pub struct Area {
     pub left: usize,
     pub top: usize,

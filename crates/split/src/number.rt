@@ -12,7 +12,7 @@ use layout::{Layout, Way, WidthRule};
 
 // What a split answers: the number, and the sizes and strides that both views have; all 0 in a refusal.
 #[repr(C)]
-#[derive(Drop)]
+#[derive(Clone, Copy)]
 pub struct Views {
     pub number: u32,
     pub width: u16,
@@ -22,7 +22,7 @@ pub struct Views {
 }
 
 // The lengths of three planes.
-#[derive(Drop)]
+#[derive(Clone, Copy)]
 pub struct PlaneLengths {
     pub y: usize,
     pub u: usize,

@@ -15,7 +15,7 @@ use view::View;
 // The first unsound rectangle of a list: whether there is one, its fault (1 to 4) and its index; both are 0 where there is none. The number is
 // 0, or 7 where the list's length is no multiple of 4, and then none is looked for.
 #[repr(C)]
-#[derive(Drop)]
+#[derive(Clone, Copy)]
 pub struct Unsound {
     pub number: u32,
     pub present: bool,

@@ -19,7 +19,7 @@ use colour::Matrix;
 use to_rgba_rows::picture_rows::Filtered;
 
 // A rectangle of a picture: right and bottom are exclusive.
-#[derive(Drop)]
+#[derive(Clone, Copy)]
 pub struct Rect {
     pub left: u16,
     pub top: u16,
@@ -30,7 +30,7 @@ pub struct Rect {
 // What picture to RGBA answers: 0 or the number of its refusal, how many bytes it wrote, and how many samples of U and of V the filter
 // replaced. In a refusal all counts are 0.
 #[repr(C)]
-#[derive(Drop)]
+#[derive(Clone, Copy)]
 pub struct Pixels {
     pub number: u32,
     pub count: usize,

@@ -22,7 +22,7 @@ ghost use Rattle.to_rgba_rows.specs.Rules.{
 ghost use Rattle.to_rgba_rows.specs.Fits.{BlocksFit, MarksFit, EvenPartFits, RowFits, PixelRowsFit};
 
 // How many samples of U and of V the filter replaced.
-#[derive(Drop)]
+#[derive(Clone, Copy)]
 pub struct Filtered {
     pub u: usize,
     pub v: usize,

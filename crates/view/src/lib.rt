@@ -10,7 +10,7 @@ ghost use Rattle.lent.specs.Outcome.{Outcome, answer_of};
 ghost use Rattle.view.specs.View.{luma_of, chroma_of, narrow, plane_short, view_number_of};
 ghost use Rattle.view.specs.Starts.{values_of, row_start_of};
 
-#[derive(Drop)]
+#[derive(Clone, Copy)]
 pub struct View {
     pub width: u16,
     pub height: u16,
@@ -19,7 +19,7 @@ pub struct View {
 }
 
 // The sizes of one plane of a view: luma, or chroma.
-#[derive(Drop)]
+#[derive(Clone, Copy)]
 pub struct Plane {
     pub stride: usize,
     pub width: usize,
@@ -27,7 +27,7 @@ pub struct Plane {
 }
 
 // Where a row starts, if there is one.
-#[derive(Drop)]
+#[derive(Clone, Copy)]
 pub enum RowStart {
     At(usize),
     Absent,

@@ -12,7 +12,7 @@ use crate::{Plane, RowStart, View};
 
 // A row by its place in the plane: start and length are 0 where it is absent or the view refused.
 #[repr(C)]
-#[derive(Drop)]
+#[derive(Clone, Copy)]
 pub struct Row {
     pub number: u32,
     pub present: bool,

@@ -4,7 +4,7 @@ ghost use Rattle.std.specs.Prelude.{◌≡◌, ◌+◌, ◌%◌, ◌≤◌, ◌<
 ghost use Rattle.wire_fields.specs.Fields.{u16_at, u32_at, u16_bytes, u32_bytes, size_in, kind_in, info_of, quantiser_in, bit_of, quantiser_byte_of};
 
 // What a quantiser byte holds: six bits of value and two flags. The Rust's QuantQuality has no place for the first of them.
-#[derive(Drop)]
+#[derive(Clone, Copy)]
 pub struct Quantiser {
     pub value: u8,
     pub reserved: bool,

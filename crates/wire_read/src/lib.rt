@@ -11,7 +11,7 @@ ghost use Rattle.wire_read.specs.Reading.{no_stream, found_of, carried_at, strea
 // Where the parts of a stream stand in the payload: how many rectangles there are; where the rectangles, the pairs and the H.264 bytes
 // start; how many H.264 bytes there are.
 #[repr(C)]
-#[derive(Drop)]
+#[derive(Clone, Copy)]
 pub struct Stream {
     pub count: usize,
     pub rects: usize,
@@ -22,7 +22,7 @@ pub struct Stream {
 
 // What a payload carries: a stream that is not carried, and everything but the number in a refusal, is 0.
 #[repr(C)]
-#[derive(Drop)]
+#[derive(Clone, Copy)]
 pub struct Avc444 {
     pub number: u32,
     pub kind: u32,
@@ -31,7 +31,7 @@ pub struct Avc444 {
 }
 
 // A stream whose count, rectangles and pairs lie in it, or one where they run past it.
-#[derive(Drop)]
+#[derive(Clone, Copy)]
 enum Found {
     Whole(Stream),
     Past,

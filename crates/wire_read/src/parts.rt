@@ -13,7 +13,7 @@ ghost use Rattle.wire_read.specs.Parts.{places_of, here_in, parts_of, rectangle_
 use crate::Stream;
 
 // One of the two streams that a payload may carry.
-#[derive(Drop)]
+#[derive(Clone, Copy)]
 pub enum Which {
     Luma,
     Chroma,
@@ -21,7 +21,7 @@ pub enum Which {
 
 // A rectangle of a stream: zeros where it is not present.
 #[repr(C)]
-#[derive(Drop)]
+#[derive(Clone, Copy)]
 pub struct Rectangle {
     pub number: u32,
     pub present: bool,
@@ -33,7 +33,7 @@ pub struct Rectangle {
 
 // A quantiser and quality pair of a stream: zeros where it is not present.
 #[repr(C)]
-#[derive(Drop)]
+#[derive(Clone, Copy)]
 pub struct Pair {
     pub number: u32,
     pub present: bool,
@@ -44,7 +44,7 @@ pub struct Pair {
 }
 
 // The payload's number, and where the parts of one of its streams stand.
-#[derive(Drop)]
+#[derive(Clone, Copy)]
 struct Here {
     number: u32,
     places: Stream,

@@ -4,7 +4,7 @@ ghost use Rattle.std.specs.Prelude.{◌≡◌, ◌&&◌, ◌+◌, ◌*◌, ◌^�
 ghost use Rattle.wire_write.specs.Number.{bytes_for, uneven, count_large, stream_long, first_carried, lacks, lists_wrong, too_long, output_short, write_number_of};
 
 // How much is lent for a stream: numbers of its rectangle list, bytes of its pairs, H.264 bytes.
-#[derive(Drop)]
+#[derive(Clone, Copy)]
 pub struct StreamSizes {
     pub rects: usize,
     pub pairs: usize,
