@@ -3,6 +3,8 @@
 // `is_avc_format` is yes exactly where R100 says so, in its words (specs/Format.antt). `avc_to_annex_b_into` promises its number,
 // its count and every byte of the output for every input (specs/AnnexB.antt), and the output is never longer than the input. No public
 // call asks anything of its caller.
+#![tactic(auto)]
+
 pub mod units; // the units that a payload is made of
 
 ghost use Rattle.std.specs.Prelude.{◌≡◌, [], ◌∷◌, ◌++◌, ◌+◌, ◌-◌, ◌≤◌, ltb, length, take, drop};

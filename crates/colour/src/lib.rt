@@ -3,6 +3,8 @@
 // Promised: each call is total on bytes and answers what the formula of specs/Colour.antt says over the whole numbers, with
 // division rounded down. The reverse transform takes its products from four tables (products.rt, specs/Products.antt); the rest has no
 // signed number. Every sum fits 16 bits, which compilers turn into short vector code.
+#![tactic(auto)]
+
 pub mod limited; // BT.601 of limited range
 pub mod products; // the four tables of products
 

@@ -3,6 +3,8 @@
 // A layout is two maps (specs/Maps.antt): `spot` says where a sample lives, so that an apply call reads it there, and `place` says whose
 // sample a spot holds, so that a split writes it there. Each chroma place of a block is fed once: the two maps undo each other, proved
 // for V1 and V2 by one record (specs/Fed.antt). The functions below are the numbers that the code above takes from the maps.
+#![tactic(auto)]
+
 ghost use Rattle.std.specs.Prelude.{◌≡◌, ◌+◌, ◌*◌, ◌/◌, ◌%◌, ◌<◌};
 ghost use Rattle.lent.specs.Sizes.{round_up};
 ghost use Rattle.layout.specs.Maps.{upper_of, wide_of, layout_of, exact_layout_of};

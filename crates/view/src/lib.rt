@@ -3,6 +3,8 @@
 // A view is refused with 3 or 4 exactly as the rules' table says (proofs/Exactly.antt), for every size, stride and length. A row of a
 // plane starts at row x stride (specs/Starts.antt); the row calls, which answer it as the caller's own bytes, are in `rows`. The sizes of
 // a view are its fields: the caller has them by value.
+#![tactic(auto)]
+
 pub mod rows; // its rows, as parts of the caller's planes
 
 ghost use Rattle.std.specs.Prelude.{◌≡◌, [], ◌*◌, ◌≤◌, length};

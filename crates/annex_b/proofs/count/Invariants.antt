@@ -1,0 +1,13 @@
+use Prim.Native.Nat.{◌+◌, ◌-◌}
+use mathlib.Core.Path.{◌≡◌}
+use lib.ListN.{length}
+use Rattle.annex_b.specs.Units.{units_from}
+use Rattle.annex_b.specs.Format.{summed}
+use Rattle.annex_b.specs.AnnexB.{count_of}
+use Rattle.annex_b.proofs.count.Given as goal
+
+abbrev pub invariant-loop-next : goal.invariant-loop-next
+invariant-loop-next l = l.c.at + summed (units_from l.s l.c.at) ≡ count_of l.s
+
+abbrev pub decreases-loop-next : goal.decreases-loop-next
+decreases-loop-next l = length l.s - l.c.at
