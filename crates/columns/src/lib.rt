@@ -3,6 +3,8 @@
 // Each promises every byte of the part that it is lent. The part begins at an even column; where the plane has the row is its caller's.
 // Rows are written in place by words of two or four bytes (`lent::words`), which is vector code where stores of single bytes are not. The even
 // places alone go part by part through a local array (`weave`), and the odd places of both planes' rows 16 at a time (`both`).
+#![tactic(auto)]
+
 pub mod weave; // a short part of a row, through a local array
 pub mod both; // the odd places of a row of both planes
 

@@ -3,6 +3,8 @@
 // Stride and rows are width and height rounded up to 16, always worked out from the size. A plane is the first stride x rows bytes of
 // its lent buffer; bytes after it never change. `new` promises its number and every byte of the three buffers, for every size and every
 // length: a refusal alters nothing.
+#![tactic(auto)]
+
 ghost use Rattle.std.specs.Prelude.{◌≡◌, [], ◌∷◌, ◌*◌, ◌≤◌, length};
 ghost use Rattle.lent.specs.Paint.{painted, whole};
 ghost use Rattle.picture.specs.Sizes.{stride_of, rows_of, allocation_size_of, planes_short};

@@ -3,6 +3,8 @@
 //
 // Two passes through local arrays, since what is looked up in a table is no vector code, and all that follows is. Each call promises every
 // byte of the part that it is lent, by the rule, for every index that is in range.
+#![tactic(auto)]
+
 pub mod limited_rows; // the same of limited range
 pub mod picture_rows; // a row of picture to RGBA
 pub mod view_rows; // the rows of a view that share their chroma, to RGBA

@@ -8,7 +8,7 @@ use borrow.Author.Tests.{ltb-true, ltb-false}
 use Rattle.lent.specs.Outcome.{answer_of}
 use Rattle.annex_b.specs.AnnexB.{count_of}
 use Rattle.annex_b.proofs.AnnexB.{annex_6_exactly, annex_0_exactly}
-use Rattle.annex_b.proofs.avc_to_annex_b_into.Lts as lts
+use Rattle.annex_b.proofs.avc_to_annex_b_into.Goals.{Else-short}
 use Rattle.annex_b.proofs.avc_to_annex_b_into.Goals as goal
 
 pub returns-then-short : goal.returns-then-short
@@ -19,16 +19,16 @@ returns-then-short c =
     rw e (record { answer = refl; buffers = refl })
 
 -- past the refusal the output is long enough
-room : (c : lts.Else-short) → let a = c.args in count_of a.«data».now ≤ length a.out.now
+room : (c : Else-short) → let a = c.args in count_of a.«data».now ≤ length a.out.now
 room c =
     let a = c.args in
     ltb-false (length a.out.now) (count_of a.«data».now) (sym c.short.ensures ∙ c.if-short.false)
 
 pub annex_b-n-requires : goal.annex_b-n-requires
-annex_b-n-requires c = room c.before
+annex_b-n-requires c = room (goal.at.annex_b-n-requires c).Else-short
 
 pub returns : goal.returns
 returns c =
     let a = c.args in
-    let e = (annex_0_exactly a.«data».now a.out.now).1 (room c.before.before.before.before) in
+    let e = (annex_0_exactly a.«data».now a.out.now).1 (room (goal.at.returns c).Else-short) in
     rw e (record { answer = ap (answer_of 0) c.annex_b-n.ensures.0; buffers = ap (λ (l : List ℕ). l ∷ []) c.annex_b-n.ensures.1 })

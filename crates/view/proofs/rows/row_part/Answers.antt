@@ -8,11 +8,11 @@ use mathlib.Core.Path.{refl, sym, ap, ◌∙◌}
 use lib.ListN.{length, take, drop}
 use Rattle.view.specs.Starts.{Values, values_of, bytes_in}
 use Rattle.view.proofs.RowLaws.{found_fits}
-use Rattle.view.proofs.rows.row_part.Lts as lts
+use Rattle.view.proofs.rows.row_part.Goals.{After-struct_known-1}
 use Rattle.view.proofs.rows.row_part.Goals as goal
 
 -- the row that was found ends in the plane
-within : (c : lts.After-struct_known-1) → (c.in-At.at + c.args.p.stride ≤ length c.args.plane.now)
+within : (c : After-struct_known-1) → (c.in-At.at + c.args.p.stride ≤ length c.args.plane.now)
     × (c.args.p.width ≤ c.args.p.stride)
 within c =
     found_fits c.args.n c.args.p _ c.args.row c.requires c.find_row-start.ensures c.in-At.is
@@ -28,10 +28,10 @@ returns-in_default c =
     }
 
 pub overflow_add-end : goal.overflow_add-end
-overflow_add-end c = record { fits = omega (arith, within c) }
+overflow_add-end c = record { fits = omega (arith, within (goal.at.overflow_add-end c).After-struct_known-1) }
 
 pub slice_bounds-result-end-2 : goal.slice_bounds-result-end-2
-slice_bounds-result-end-2 c = omega (arith, within c)
+slice_bounds-result-end-2 c = omega (arith, within (goal.at.slice_bounds-result-end-2 c).After-struct_known-1)
 
 pub returns : goal.returns
 returns c =
