@@ -8,11 +8,11 @@ use Rattle.annex_b.specs.AnnexB.{count_of}
 use Rattle.annex_b.proofs.UnitLaws.{Found, found, found_none}
 use Rattle.annex_b.proofs.Made.{summed_more, summed_none}
 use Rattle.annex_b.proofs.Written.{put_more, put_none, put_all}
-use Rattle.annex_b.proofs.annex_b.Goals.{In-Whole-2}
+use Rattle.annex_b.proofs.annex_b.Goals.{In-Whole}
 use Rattle.annex_b.proofs.annex_b.Goals as goal
 
 -- the unit that the step has found
-found_at : (c : In-Whole-2 invariant-loop decreases-loop) → Found c.args.s.now c.loop-end.c.at c.in-Whole.start c.in-Whole.end c.in-Whole.next.at
+found_at : (c : In-Whole) → Found c.args.s.now c.loop-end.c.at c.in-Whole.start c.in-Whole.end c.in-Whole.next.at
 found_at c = found c.args.s.now c.loop-end.c.at c.step-step.ensures c.in-Whole.is
 
 pub loop-end-init : goal.loop-end-init
@@ -32,15 +32,15 @@ returns-in_default c =
 
 pub put_unit-requires : goal.put_unit-requires
 put_unit-requires c =
-    let f = found_at (goal.at.put_unit-requires c).In-Whole-2 in
+    let f = found_at (goal.at.put_unit-requires c).In-Whole in
     let n = summed_more f in
     (omega arith, omega arith, omega arith)
 
 pub loop-end-smaller : goal.loop-end-smaller
-loop-end-smaller c = let f = found_at (goal.at.loop-end-smaller c).In-Whole-2 in omega arith
+loop-end-smaller c = let f = found_at (goal.at.loop-end-smaller c).In-Whole in omega arith
 
 pub loop-end-preserved : goal.loop-end-preserved
 loop-end-preserved c =
-    let f = found_at (goal.at.loop-end-preserved c).In-Whole-2 in
+    let f = found_at (goal.at.loop-end-preserved c).In-Whole in
     let u = c.put_unit in
     (u.auto.1.0 ∙ c.loop-end.invariant.0, summed_more f ∙ c.loop-end.invariant.1, put_more f c.loop-end.out u.new.1.0 u.ensures ∙ c.loop-end.invariant.2)

@@ -5,11 +5,11 @@ use native.Mathlib.Omega.{arith}
 use mathlib.Core.Path.{refl, ◌∙◌}
 use Rattle.annex_b.proofs.UnitLaws.{Found, found, found_none}
 use Rattle.annex_b.proofs.Made.{made_none, made_empty, made_more}
-use Rattle.annex_b.proofs.made_of_units.Goals.{In-Whole-2}
+use Rattle.annex_b.proofs.made_of_units.Goals.{In-Whole}
 use Rattle.annex_b.proofs.made_of_units.Goals as goal
 
 -- the unit that the step has found
-found_at : (c : In-Whole-2 invariant-loop decreases-loop) → Found c.args.s.now c.loop-start.c.at c.in-Whole.start c.in-Whole.end c.in-Whole.next.at
+found_at : (c : In-Whole) → Found c.args.s.now c.loop-start.c.at c.in-Whole.start c.in-Whole.end c.in-Whole.next.at
 found_at c = found c.args.s.now c.loop-start.c.at c.step-step.ensures c.in-Whole.is
 
 pub loop-start-init : goal.loop-start-init
@@ -21,10 +21,10 @@ returns-in_default c =
     made_none s c.loop-start.c.at (found_none s c.loop-start.c.at c.step-step.ensures c.in_default.is) ∙ c.loop-start.invariant
 
 pub returns-then-start-end : goal.returns-then-start-end
-returns-then-start-end c = made_empty (found_at (goal.at.returns-then-start-end c).In-Whole-2) c.if-start-end.true ∙ c.loop-start.invariant
+returns-then-start-end c = made_empty (found_at (goal.at.returns-then-start-end c).In-Whole) c.if-start-end.true ∙ c.loop-start.invariant
 
 pub loop-start-smaller : goal.loop-start-smaller
-loop-start-smaller c = let f = found_at (goal.at.loop-start-smaller c).In-Whole-2 in omega arith
+loop-start-smaller c = let f = found_at (goal.at.loop-start-smaller c).In-Whole in omega arith
 
 pub loop-start-preserved : goal.loop-start-preserved
-loop-start-preserved c = made_more (found_at (goal.at.loop-start-preserved c).In-Whole-2) c.if-start-end.false ∙ c.loop-start.invariant
+loop-start-preserved c = made_more (found_at (goal.at.loop-start-preserved c).In-Whole) c.if-start-end.false ∙ c.loop-start.invariant

@@ -16,7 +16,7 @@ loop-col-init c = (omega arith, λ lt. omega arith, below_none _ _ _)
 pub even_part-requires : goal.even_part-requires
 even_part-requires c =
     let fours = c.loop-col.invariant.1 (omega arith) in
-    let whole = search rules in record { dst_len = whole.0; dst_len_bound = whole.1.0; lead_bound = whole.1.1.0; dst_in_bounds = whole.1.1.1.0; dst_in_bounds_2 = whole.1.1.1.1 }
+    search rules
 
 pub loop-col-smaller : goal.loop-col-smaller
 loop-col-smaller c = turn_falls 252 (omega arith) c.loop-col.invariant.2.0 c.loop-col-test.true c.least.ensures

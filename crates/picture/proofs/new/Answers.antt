@@ -26,7 +26,7 @@ number-0 c = sym c.new_number-number.ensures ∙ c.if-number-ne0.false
 fits : (c : After-rows-rows) → let a = c.args in let n = c.rows-rows.result * c.stride-stride.result in (n ≤ length a.y.now) × (n ≤ length a.u.now) × (n ≤ length a.v.now)
 fits c =
     let a = c.args in
-    let f = (new_0_exactly a.size (length a.y.now) (length a.u.now) (length a.v.now)).0 (number-0 c.before.before) in
+    let f = (new_0_exactly a.size (length a.y.now) (length a.u.now) (length a.v.now)).0 ((sym c.new_number-number.ensures ∙ c.if-number-ne0.false)) in
     rw (c.rows-rows.ensures.0, c.stride-stride.ensures.0) (f.y_fits, f.u_fits, f.v_fits)
 
 -- and what is filled is the picture's plane

@@ -16,7 +16,7 @@ use Rattle.to_rgba_rows.proofs.limited_rows.limited_lines.Goals.{In-loop-l}
 use Rattle.to_rgba_rows.proofs.limited_rows.limited_lines.Goals as goal
 
 -- the row is within the output, and its luma within the input
-room : (c : In-loop-l invariant-loop decreases-loop) →
+room : (c : In-loop-l) →
     let l = c.loop-l.l in
     let a = c.args in
     (l * (4 * a.n) + 4 * a.n ≤ length c.loop-l.out) × ((a.row + l) * a.luma + a.luma ≤ length a.y.now)

@@ -8,9 +8,9 @@ use Rattle.to_rgba_rows.specs.Rules.{view_pixel_at}
 use Rattle.to_rgba_rows.proofs.limited_rows.limited_lines.Given as goal
 
 abbrev pub invariant-loop-l : goal.invariant-loop-l
-invariant-loop-l l =
-    (length l.out ≡ length l.initial.out)
-    × (l.out ≡ painted (4 * l.n) l.lines (up_to whole l.l) (λ q. bytes (view_pixel_at limited_reverse_of l.luma l.chroma l.y l.u l.v (l.row + q))) l.initial.out)
+invariant-loop-l t =
+    (length t.out ≡ length t.initial.out)
+    × (t.out ≡ painted (4 * t.n) t.lines (up_to whole t.l) (λ q. bytes (view_pixel_at limited_reverse_of t.luma t.chroma t.y t.u t.v (t.row + q))) t.initial.out)
 
 abbrev pub decreases-loop-l : goal.decreases-loop-l
-decreases-loop-l l = l.lines - l.l
+decreases-loop-l t = t.lines - t.l

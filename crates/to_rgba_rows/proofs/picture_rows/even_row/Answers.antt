@@ -10,32 +10,33 @@ use Rattle.lent.proofs.ByPart.{part_long}
 use Rattle.lent.proofs.Pixels.{done_all}
 use Rattle.to_rgba_rows.proofs.Filtered.{Counted, counted_head, counted_more}
 use Rattle.to_rgba_rows.proofs.PictureParts.{smooth_more}
-use Rattle.to_rgba_rows.proofs.picture_rows.even_row.Goals.{After-even_part-filtered, At-loop-col, Start}
+use Rattle.to_rgba_rows.proofs.picture_rows.even_row.Goals.{After-even_part-filtered}
 use Rattle.to_rgba_rows.proofs.picture_rows.even_row.Goals as goal
 
-abbrev start : At-loop-col invariant-loop decreases-loop → Start invariant-loop decreases-loop
-start l = l
-
 -- a part more is counted, of either plane
-counted : (e : After-even_part-filtered invariant-loop decreases-loop) → let a = (start e.before.before.before.before).args in
+counted : (e : After-even_part-filtered) → let a = e.args in
     let now : List ℕ → ℕ → Type 0 = λ p. Counted a.stride a.row a.left p (e.loop-col.col + e.least-m.result) in
     now a.u.now (e.loop-col.filtered-u + e.even_part-filtered.result.u) × now a.v.now (e.loop-col.filtered-v + e.even_part-filtered.result.v)
 counted e =
-    let a = (start e.before.before.before.before).args in
+    let a = e.args in
     let more = counted_more a.stride a.row a.left e.loop-col.col e.least-m.result _ refl (e.loop-col.invariant.1 e.loop-col-test.true) in (
       more a.u.now _ _ e.loop-col.invariant.4 (λ t. (e.even_part-filtered.ensures.value t).u),
       more a.v.now _ _ e.loop-col.invariant.5 (λ t. (e.even_part-filtered.ensures.value t).v),
     )
 
 pub even_head-requires : goal.even_head-requires
-even_head-requires c = let whole = (record { exact = search rules; inside = search rules; y_fits = search rules; u_fits = omega arith; v_fits = omega arith }, search rules) in record { row_fits = whole.0; n_nonzero = whole.1.0; tables = whole.1.1 }
+even_head-requires c =
+    record {
+      row_fits = record { exact = search rules; inside = search rules; y_fits = search rules; u_fits = omega arith; v_fits = omega arith };
+      n_nonzero = (search rules).0;
+      tables = (search rules).1;
+    }
 
 pub loop-col-init : goal.loop-col-init
 loop-col-init c = (omega arith, λ lt. omega arith, omega arith, λ even xs e h. h, counted_head _ _ _ _, counted_head _ _ _ _)
 
 pub even_part-filtered-requires : goal.even_part-filtered-requires
 even_part-filtered-requires c =
-    let pre = (start (goal.at.even_part-filtered-requires c).At-loop-col).requires in
     let even = c.loop-col.invariant.1 c.loop-col-test.true in
     let long = part_long c.loop-col.out (4 * c.loop-col.col) (4 * (c.loop-col.col + c.least-m.result)) (omega arith) (omega arith) in (
       record {
@@ -47,22 +48,22 @@ even_part-filtered-requires c =
         u_below = omega arith;
         v_below = omega arith;
       },
-      pre.1.1,
+      c.requires.tables,
     )
 
 pub overflow_add-filtered_u : goal.overflow_add-filtered_u
 overflow_add-filtered_u c = omega (arith, (counted (goal.at.overflow_add-filtered_u c).After-even_part-filtered).0.0)
 
 pub overflow_add-filtered_v : goal.overflow_add-filtered_v
-overflow_add-filtered_v c = omega (arith, (counted (goal.at.overflow_add-filtered_v c).After-even_part-filtered).1.0, (start (goal.at.overflow_add-filtered_v c).At-loop-col).fits.n)
+overflow_add-filtered_v c = omega (arith, (counted (goal.at.overflow_add-filtered_v c).After-even_part-filtered).1.0, c.fits.n)
 
 pub overflow_add-col-in-loop-col : goal.overflow_add-col-in-loop-col
-overflow_add-col-in-loop-col c = omega (arith, (start (goal.at.overflow_add-col-in-loop-col c).At-loop-col).fits.n)
+overflow_add-col-in-loop-col c = omega (arith, c.fits.n)
 
 pub loop-col-preserved : goal.loop-col-preserved
 loop-col-preserved c =
     let col = c.loop-col.col in
-    let a = (start (goal.at.loop-col-preserved c).At-loop-col).args in
+    let a = c.args in
     let even-col = c.loop-col.invariant.1 c.loop-col-test.true in (
       omega arith,
       λ lt. omega arith,
@@ -75,7 +76,7 @@ loop-col-preserved c =
 
 pub returns : goal.returns
 returns c =
-    let a = (start (goal.at.returns c).At-loop-col).args in
+    let a = c.args in
     let all : c.loop-col.col ≡ a.n = omega arith in
     let in-u = rw all at c.loop-col.invariant.4 in
     let in-v = rw all at c.loop-col.invariant.5 in record {

@@ -13,7 +13,11 @@ pub even_row-requires : goal.even_row-requires
 even_row-requires c =
     let a = c.args in
     let fits = two_rows a.stride a.rows c.least-even.result (omega arith) in
-    let whole = (record { exact = search rules; inside = search rules; y_fits = omega arith; u_fits = omega arith; v_fits = omega arith }, search rules) in record { row_fits = whole.0; stride_value = whole.1.0; tables = whole.1.1 }
+    record {
+      row_fits = record { exact = search rules; inside = search rules; y_fits = omega arith; u_fits = omega arith; v_fits = omega arith };
+      stride_value = (search rules).0;
+      tables = (search rules).1;
+    }
 
 pub returns-then-row-eq0 : goal.returns-then-row-eq0
 returns-then-row-eq0 c =

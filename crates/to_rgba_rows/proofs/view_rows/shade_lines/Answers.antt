@@ -21,7 +21,7 @@ pub loop-l-init : goal.loop-l-init
 loop-l-init c = (refl, rows_none _ _ _ _ _ 0 (λ r q e. omega arith))
 
 -- the row is within the output, and its luma within the input
-room : (c : In-loop-l invariant-loop decreases-loop) →
+room : (c : In-loop-l) →
     let l = c.loop-l.l in
     let a = c.args in
     (l * (4 * a.n) + 4 * a.n ≤ length c.loop-l.out) × (a.at + l * a.luma + a.luma ≤ length a.y.now)

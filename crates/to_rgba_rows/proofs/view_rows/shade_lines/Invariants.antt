@@ -7,10 +7,10 @@ use Rattle.to_rgba_rows.specs.Rules.{shades_from, half_of}
 use Rattle.to_rgba_rows.proofs.view_rows.shade_lines.Given as goal
 
 abbrev pub invariant-loop-l : goal.invariant-loop-l
-invariant-loop-l l =
-    (length l.out ≡ length l.initial.out)
-    × (l.out ≡ painted (4 * l.n) l.lines (up_to (λ q. within (4 * l.k) (4 * (l.k + l.m))) l.l)
-    (λ q. bytes (λ i. shades_from half_of l.y (l.at + q * l.luma + l.k) l.r l.g l.b (i - l.k))) l.initial.out)
+invariant-loop-l t =
+    (length t.out ≡ length t.initial.out)
+    × (t.out ≡ painted (4 * t.n) t.lines (up_to (λ q. within (4 * t.k) (4 * (t.k + t.m))) t.l)
+    (λ q. bytes (λ i. shades_from half_of t.y (t.at + q * t.luma + t.k) t.r t.g t.b (i - t.k))) t.initial.out)
 
 abbrev pub decreases-loop-l : goal.decreases-loop-l
-decreases-loop-l l = l.lines - l.l
+decreases-loop-l t = t.lines - t.l
