@@ -1,4 +1,6 @@
 // Rectangle lists, the widened area, the columns whose luma a rectangle takes, and the refusals of an apply call.
+#![tactic(auto)]
+
 ghost use Rattle.std.specs.Prelude.{◌≡◌, ◌*◌, ◌/◌, ◌<◌, min, length};
 ghost use Rattle.lent.specs.Sizes.{round_up};
 ghost use Rattle.rects.specs.Rects.{chroma_block_area_of, rect_at_of};

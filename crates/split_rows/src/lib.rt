@@ -6,6 +6,8 @@
 //
 // A view may be wider than the picture's planes: its rows then go on with one byte. What the 32 rule adds to a row, to half of one and to a
 // quarter is filled in a place of its own, where the compiler knows how many bytes it is and makes no call for them.
+#![tactic(auto)]
+
 ghost use Rattle.std.specs.Prelude.{◌≡◌, ◌+◌, ◌*◌, ◌/◌, ◌%◌, ◌<◌, ◌≤◌, ltb, length, get_or};
 ghost use Rattle.lent.specs.Paint.{paint, every};
 ghost use Rattle.lent.specs.Samples.{sample};

@@ -1,5 +1,7 @@
 // The numbers of an AVC444 payload: little-endian ones, and the fields inside a number, which are taken out by shifts and masks and go
 // back the same way. specs/Fields.antt says by arithmetic what they are.
+#![tactic(auto)]
+
 ghost use Rattle.std.specs.Prelude.{◌≡◌, ◌+◌, ◌%◌, ◌≤◌, ◌<◌, length};
 ghost use Rattle.wire_fields.specs.Fields.{u16_at, u32_at, u16_bytes, u32_bytes, size_in, kind_in, info_of, quantiser_in, bit_of, quantiser_byte_of};
 

@@ -2,6 +2,8 @@
 //
 // `read` answers which streams are carried and where their parts stand in the payload, or a refusal (specs/Reading.antt). It looks at the
 // counts and not at what is counted, so that a count costs no time, however large it is. No public call asks anything of its caller.
+#![tactic(auto)]
+
 pub mod parts; // the parts of a payload that was read
 
 ghost use Rattle.std.specs.Prelude.{◌≡◌, [], ◌≤◌, length};

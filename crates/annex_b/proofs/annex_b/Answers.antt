@@ -42,5 +42,4 @@ loop-end-smaller c = let f = found_at (goal.at.loop-end-smaller c).In-Whole in o
 pub loop-end-preserved : goal.loop-end-preserved
 loop-end-preserved c =
     let f = found_at (goal.at.loop-end-preserved c).In-Whole in
-    let u = c.put_unit in
-    (u.auto.1.0 ∙ c.loop-end.invariant.0, summed_more f ∙ c.loop-end.invariant.1, put_more f c.loop-end.out u.new.1.0 u.ensures ∙ c.loop-end.invariant.2)
+    (c.put_unit.auto.out ∙ c.loop-end.invariant.0, summed_more f ∙ c.loop-end.invariant.1, put_more f c.loop-end.out c.put_unit.new.out c.put_unit.ensures ∙ c.loop-end.invariant.2)

@@ -17,7 +17,7 @@ shades-requires c =
     let a = c.args in
     record {
       out_len = (omega arith, omega arith, omega arith);
-      small = shares_small a.u.now a.v.now a.c (c.shares.ensures.r, c.shares.ensures.g, c.shares.ensures.b);
+      small = shares_small a.u.now a.v.now a.c (c.shares.ensures.r, (c.shares.ensures.g, c.shares.ensures.b));
     }
 
 pub returns : goal.returns
@@ -25,4 +25,4 @@ returns c =
     let a = c.args in
     rw c.shades.ensures
     (part_ext _ _ a.out.now a.n (omega arith)
-    (shade_reversed a.u.now a.v.now a.c (c.shares.ensures.r, c.shares.ensures.g, c.shares.ensures.b) (λ k. k) a.y.now a.at))
+    (shade_reversed a.u.now a.v.now a.c (c.shares.ensures.r, (c.shares.ensures.g, c.shares.ensures.b)) (λ k. k) a.y.now a.at))

@@ -18,7 +18,7 @@ slice_bounds-part-end-2 c = sym (ap length c.smoothed.ensures.q ∙ length-paint
 
 pub part-requires : goal.part-requires
 part-requires c =
-    let p = slice_bounds-part-end c in
+    let p = (sym (ap length c.smoothed.ensures.p ∙ length-paint _ _ _)) in
     let q = slice_bounds-part-end-2 c in
     record {
       part_fits = record { exact = search rules; few = search rules; y_has = search rules; u_has = omega arith; v_has = omega arith };

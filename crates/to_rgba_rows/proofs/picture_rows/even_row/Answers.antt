@@ -16,7 +16,7 @@ use Rattle.to_rgba_rows.proofs.picture_rows.even_row.Goals as goal
 -- a part more is counted, of either plane
 counted : (e : After-even_part-filtered) → let a = e.args in
     let now : List ℕ → ℕ → Type 0 = λ p. Counted a.stride a.row a.left p (e.loop-col.col + e.least-m.result) in
-    now a.u.now (e.loop-col.filtered-u + e.even_part-filtered.result.u) × now a.v.now (e.loop-col.filtered-v + e.even_part-filtered.result.v)
+    now a.u.now (e.loop-col.filtered_u + e.even_part-filtered.result.u) × now a.v.now (e.loop-col.filtered_v + e.even_part-filtered.result.v)
 counted e =
     let a = e.args in
     let more = counted_more a.stride a.row a.left e.loop-col.col e.least-m.result _ refl (e.loop-col.invariant.1 e.loop-col-test.true) in (
@@ -28,8 +28,8 @@ pub even_head-requires : goal.even_head-requires
 even_head-requires c =
     record {
       row_fits = record { exact = search rules; inside = search rules; y_fits = search rules; u_fits = omega arith; v_fits = omega arith };
-      n_nonzero = (search rules).0;
-      tables = (search rules).1;
+      n_nonzero = search rules;
+      tables = search rules;
     }
 
 pub loop-col-init : goal.loop-col-init
@@ -38,8 +38,8 @@ loop-col-init c = (omega arith, λ lt. omega arith, omega arith, λ even xs e h.
 pub even_part-filtered-requires : goal.even_part-filtered-requires
 even_part-filtered-requires c =
     let even = c.loop-col.invariant.1 c.loop-col-test.true in
-    let long = part_long c.loop-col.out (4 * c.loop-col.col) (4 * (c.loop-col.col + c.least-m.result)) (omega arith) (omega arith) in (
-      record {
+    let long = part_long c.loop-col.out (4 * c.loop-col.col) (4 * (c.loop-col.col + c.least-m.result)) (omega arith) (omega arith) in record {
+      even_part_fits = record {
         exact = omega arith;
         few = omega arith;
         y_has = omega arith;
@@ -47,18 +47,18 @@ even_part-filtered-requires c =
         v_has = omega arith;
         u_below = omega arith;
         v_below = omega arith;
-      },
-      c.requires.tables,
-    )
+      };
+      tables = c.requires.tables;
+    }
 
 pub overflow_add-filtered_u : goal.overflow_add-filtered_u
 overflow_add-filtered_u c = omega (arith, (counted (goal.at.overflow_add-filtered_u c).After-even_part-filtered).0.0)
 
 pub overflow_add-filtered_v : goal.overflow_add-filtered_v
-overflow_add-filtered_v c = omega (arith, (counted (goal.at.overflow_add-filtered_v c).After-even_part-filtered).1.0, c.fits.n)
+overflow_add-filtered_v c = omega (arith, (counted (goal.at.overflow_add-filtered_v c).After-even_part-filtered).1.0, c.ranges.n)
 
 pub overflow_add-col-in-loop-col : goal.overflow_add-col-in-loop-col
-overflow_add-col-in-loop-col c = omega (arith, c.fits.n)
+overflow_add-col-in-loop-col c = omega (arith, c.ranges.n)
 
 pub loop-col-preserved : goal.loop-col-preserved
 loop-col-preserved c =

@@ -15,8 +15,8 @@ even_row-requires c =
     let fits = two_rows a.stride a.rows c.least-even.result (omega arith) in
     record {
       row_fits = record { exact = search rules; inside = search rules; y_fits = omega arith; u_fits = omega arith; v_fits = omega arith };
-      stride_value = (search rules).0;
-      tables = (search rules).1;
+      stride_value = search rules;
+      tables = search rules;
     }
 
 pub returns-then-row-eq0 : goal.returns-then-row-eq0

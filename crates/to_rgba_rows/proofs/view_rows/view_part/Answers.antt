@@ -21,11 +21,11 @@ shade_lines-requires c =
     let a = c.args in
     record {
       lines_fit = c.requires.view_part_fits.fits;
-      small = shares_small a.u.now a.v.now a.c (c.shares.ensures.r, c.shares.ensures.g, c.shares.ensures.b);
+      small = shares_small a.u.now a.v.now a.c (c.shares.ensures.r, (c.shares.ensures.g, c.shares.ensures.b));
     }
 
 pub returns : goal.returns
 returns c =
     let a = c.args in
     shared_part (4 * a.n) a.lines a.k a.m (λ l. a.at + l * a.luma) a.y.now a.u.now a.v.now a.c a.out.now
-    {is = c.shade_lines.new.out} (c.shares.ensures.r, c.shares.ensures.g, c.shares.ensures.b) c.shade_lines.ensures
+    {is = c.shade_lines.new.out} (c.shares.ensures.r, (c.shares.ensures.g, c.shares.ensures.b)) c.shade_lines.ensures
