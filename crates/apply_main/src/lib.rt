@@ -1,4 +1,6 @@
 // The main view goes into the picture: every rectangle of a list, refusals, and every byte of the three planes afterwards.
+#![tactic(auto)]
+
 pub mod rows; // one row of luma, one row of chroma
 
 ghost use Rattle.std.specs.Prelude.{◌≡◌, [], ◌∷◌, ◌*◌, ◌%◌, ◌≤◌, length};

@@ -3,6 +3,8 @@
 // Each pixel is converted by the colour matrix (rows), the padding is put by the edge rule (edges), and then U and V of each even row and even
 // column are replaced by their block's average (averages). The edge rule fills the edge, or leaves the padding as the Rust does. The call promises
 // its number and every byte of the three buffers, for every input, matrix, size and length: a refusal alters nothing.
+#![tactic(auto)]
+
 pub mod averages; // the average of each 2x2 block
 pub mod edges; // the padding
 pub mod rows; // the converted pixels

@@ -3,6 +3,8 @@
 // Each promises its number, its count and every byte of the output, for every input (specs/Picture.antt, specs/View.antt); neither asks
 // anything of its caller. What holds of rows of pixels is said once, over the rule that makes a pixel (specs/Pictured.antt); the rule
 // and the writers of one row are in to_rgba_rows.
+#![tactic(auto)]
+
 ghost use Rattle.std.specs.Prelude.{◌≡◌, [], ◌∷◌, length, ◌+◌, ◌*◌};
 ghost use Rattle.colour.specs.Limited.{reverse_by};
 ghost use Rattle.colour.specs.Products.{Tables};
