@@ -2,6 +2,8 @@
 // many pixels of a rectangle lie in blocks that are not complete.
 //
 // What its numbers say of the calls that were made is in map_apply and map_law.
+#![tactic(auto)]
+
 pub mod boxes; // boxes of blocks are set or turned
 pub mod counts; // pixels in blocks that are not complete
 

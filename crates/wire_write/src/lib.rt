@@ -2,6 +2,8 @@
 //
 // The number is found from the lengths before anything is written, so that a refusal changes no byte. No public call asks anything of
 // its caller.
+#![tactic(auto)]
+
 pub mod number; // 8, 7, 11 or 6, from the lengths alone
 pub mod put; // one stream, into a lent part
 

@@ -26,17 +26,17 @@ counted : (e : After-put_row-filtered) → let a = e.args in
 counted e =
     let a = e.args in
     let more = filtered_more a.stride a.left a.top a.n a.h e.loop-r.r (length a.out.now) e.loop-r-test.true e.requires.room in (
-      more a.u.now _ _ e.loop-r.inv.3 (λ t. (e.put_row-filtered.ensures.value t).u),
-      more a.v.now _ _ e.loop-r.inv.4 (λ t. (e.put_row-filtered.ensures.value t).v),
+      more a.u.now _ _ e.loop-r.invariant.3 (λ t. (e.put_row-filtered.ensures.value t).u),
+      more a.v.now _ _ e.loop-r.invariant.4 (λ t. (e.put_row-filtered.ensures.value t).v),
     )
 
 -- what is lent are the four tables
-tables : (l : At-loop-r) → Tables l.red_v-rv.result l.green_u_lem.result
-    l.green_v_lem.result l.blue_u-bu.result
+tables : (l : At-loop-r) → Tables l.red_v-rv.result l.green_u-gu.result
+    l.green_v-gv.result l.blue_u-bu.result
 tables l = record {
   red = l.red_v-rv.ensures;
-  green_u_lem = l.green_u_lem.ensures;
-  green_v_lem = l.green_v_lem.ensures;
+  green_u_lem = l.green_u-gu.ensures;
+  green_v_lem = l.green_v-gv.ensures;
   blue = l.blue_u-bu.ensures;
 }
 
@@ -84,7 +84,7 @@ loop-r-preserved c =
     let fits = c.requires in (
       omega arith,
       search rules,
-      pictured_more _ _ _ _ c.loop-r.r (omega arith) (omega arith) c.loop-r.inv.2 c.put_row-filtered.ensures.out_after refl,
+      pictured_more _ _ _ _ c.loop-r.r (omega arith) (omega arith) c.loop-r.invariant.2 c.put_row-filtered.ensures.out_after refl,
       (counted (goal.at.loop-r-preserved c).After-put_row-filtered).0.1,
       (counted (goal.at.loop-r-preserved c).After-put_row-filtered).1.1,
     )

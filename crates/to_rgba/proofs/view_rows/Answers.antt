@@ -20,12 +20,12 @@ room l lines le =
     lines_room l.args.n l.args.h l.loop-r.r lines _ le l.requires.room
 
 -- what is lent are the four tables
-tables : (l : At-loop-r) → Tables l.red_v-rv.result l.green_u_lem.result
-    l.green_v_lem.result l.blue_u-bu.result
+tables : (l : At-loop-r) → Tables l.red_v-rv.result l.green_u-gu.result
+    l.green_v-gv.result l.blue_u-bu.result
 tables l = record {
   red = l.red_v-rv.ensures;
-  green_u_lem = l.green_u_lem.ensures;
-  green_v_lem = l.green_v_lem.ensures;
+  green_u_lem = l.green_u-gu.ensures;
+  green_v_lem = l.green_v-gv.ensures;
   blue = l.blue_u-bu.ensures;
 }
 

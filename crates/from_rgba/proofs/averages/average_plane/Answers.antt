@@ -18,7 +18,7 @@ loop-row-init c = (refl, omega arith, refl, whole_none _ _ _ _)
 inside : (c : In-loop-row) → let a = c.args in c.loop-row.row * a.stride + 2 * a.stride ≤ length a.plane.now
 inside c =
     let a = c.args in
-    omega (arith, (c.requires.stride_in_bounds, (c.requires.stride_value, c.requires.rows_value)), pair_in_lem a.stride a.rows c.loop-row.row (omega arith))
+    omega (arith, c.requires.stride_in_bounds, c.requires.stride_value, c.requires.rows_value, pair_in_lem a.stride a.rows c.loop-row.row (omega arith))
 
 pub overflow_mul-line : goal.overflow_mul-line
 overflow_mul-line c = omega (arith, inside (goal.at.overflow_mul-line c).In-loop-row)

@@ -28,7 +28,7 @@ fits c =
 row_inside : (c : In-loop-row) → let w = c.round_up_16-stride.result in c.loop-row.row * w + w ≤ length c.loop-row.plane
 row_inside c =
     let a = c.args in
-    omega (arith, (((rw c.round_up_16-stride.ensures c.requires.width_in_bounds.width_in_bounds, omega (arith, c.requires.width_in_bounds.width_nonzero), omega (arith, c.round_up_16-stride.ensures)))).0, row_in c.round_up_16-stride.result (round_up 16 a.height) c.loop-row.row (omega (arith, c.loop-row-test.true)))
+    omega (arith, ((let inl : (let a = c.args in (round_up 16 a.height * c.round_up_16-stride.result ≤ length a.plane.now) × (1 ≤ a.width) × (a.width ≤ c.round_up_16-stride.result)) = (rw c.round_up_16-stride.ensures c.requires.width_in_bounds, omega (arith, c.requires.width_nonzero), omega (arith, c.round_up_16-stride.ensures)) in inl)).0, row_in c.round_up_16-stride.result (round_up 16 a.height) c.loop-row.row (omega (arith, c.loop-row-test.true)))
 
 pub overflow_mul-line : goal.overflow_mul-line
 overflow_mul-line c = omega (arith, row_inside (goal.at.overflow_mul-line c).In-loop-row)

@@ -34,10 +34,10 @@ room : (c : In-loop-row) →
     LineFits (length a.rgba.now) (length c.loop-row.y) (length c.loop-row.u) (length c.loop-row.v) (4 * (c.loop-row.row * a.width)) a.width (c.loop-row.row * c.round_up_16-stride.result)
 room c =
     let a = c.args in
-    let f = (let f = c.requires in
-    rw c.round_up_16-stride.ensures (f.y_fits, f.u_fits, f.v_fits)) in
+    let f = (let inl : (let a = c.args in let n = round_up 16 a.height * c.round_up_16-stride.result in (n ≤ length a.y.now) × (n ≤ length a.u.now) × (n ≤ length a.v.now)) = let f = c.requires in
+    rw c.round_up_16-stride.ensures (f.y_fits, f.u_fits, f.v_fits) in inl) in
     let line = row_in c.round_up_16-stride.result (round_up 16 a.height) c.loop-row.row (omega (arith, c.loop-row-test.true)) in
-    let n = (omega (arith, c.round_up_16-stride.ensures)) in
+    let n = (let inl : (c.args.width ≤ c.round_up_16-stride.result) = omega (arith, c.round_up_16-stride.ensures) in inl) in
     record {
       pixels = pixels_in a.width a.height c.loop-row.row _ c.requires.pixels c.loop-row-test.true;
       y_fits = omega (arith, c.loop-row.invariant.0.0);

@@ -24,7 +24,7 @@ fits c = rw (c.round_up_16-rows.ensures, c.round_up_16-stride.ensures) c.require
 
 row_inside : (c : In-loop-row) → let w = c.round_up_16-stride.result in c.loop-row.row * w + w ≤ length c.loop-row.plane
 row_inside c =
-    omega (arith, (rw (c.round_up_16-rows.ensures, c.round_up_16-stride.ensures) c.requires), row_in c.round_up_16-stride.result c.round_up_16-rows.result c.loop-row.row c.loop-row-test.true)
+    omega (arith, (let inl : (c.round_up_16-rows.result * c.round_up_16-stride.result ≤ length c.args.plane.now) = rw (c.round_up_16-rows.ensures, c.round_up_16-stride.ensures) c.requires in inl), row_in c.round_up_16-stride.result c.round_up_16-rows.result c.loop-row.row c.loop-row-test.true)
 
 -- padding starts within the row
 narrow : (c : After-padding_from-from) → c.padding_from-from.result ≤ c.round_up_16-stride.result

@@ -1,0 +1,173 @@
+-- `apply_auxiliary_rows::v1::v1_even_row` meets its contract: where the view has the chroma row, the odd columns below twice its width come from it,
+-- U's from the view's U and V's from its V. Assumes nothing.
+use borrow.Author.Rules.{rules}
+use Prim.Native.Nat.{ℕ, ◌+◌, ◌*◌, ◌/◌, ◌%◌, ◌<◌, ◌≤◌, min}
+use native.Mathlib.Omega.{arith}
+use mathlib.Core.Path.{◌≡◌, refl, ap, ◌∙◌}
+use mathlib.Core.Bool.{true}
+use lib.ListN.{length}
+use Rattle.lent.specs.Sizes.{half_up}
+use Rattle.view.specs.View.{chroma_of}
+use Rattle.view.proofs.Starts.{row_start_at, row_start_absent, row_fits}
+use Rattle.layout.specs.declared.Chroma.TheVariants.{CU, CV}
+use Rattle.layout.specs.declared.Layout.TheVariants.{V1}
+use Rattle.layout.specs.Exists.{fed}
+use Rattle.layout.proofs.Pairs.{v1_even_facts}
+use Rattle.apply_auxiliary_rows.proofs.Columns.{columns_none}
+use Rattle.apply_auxiliary_rows.proofs.Area.{area_room, copy_fits, odds_fit}
+use Rattle.apply_auxiliary_rows.proofs.Written.{v1_even_written}
+use Rattle.apply_auxiliary_rows.proofs.v1.v1_even_row.Goals.{After-least-stop, After-stride, In-At, Start}
+use Rattle.apply_auxiliary_rows.proofs.v1.v1_even_row.Goals as goal
+
+-- the view has the row, it starts at `at`, and it lies in both planes
+there : (f : In-At) → let a = f.args in (a.row / 2 < half_up a.w.height) × (f.in-At.at ≡ a.row / 2 * a.w.chroma_stride)
+there f =
+    let t = row_start_at _ _ _ f.row_start.ensures f.in-At.is in
+    (omega (arith, t.0, f.half_up-high.ensures), t.1)
+
+view-row : (f : In-At)
+    → let a = f.args in
+    (f.in-At.at + a.w.chroma_stride ≤ length a.vu.now) × (f.in-At.at + a.w.chroma_stride ≤ length a.vv.now)
+view-row f =
+    let p = chroma_of f.args.w in
+    (omega (arith, (there f).1, (row_fits p _ (f.args.row / 2) f.requires.plane_fits (there f).0).0), omega (arith, (there f).1, (row_fits p _ (f.args.row / 2) f.requires.plane_fits_2 (there f).0).0))
+
+-- one column bounds the row
+stops : (l : After-least-stop) → let a = l.args in l.least-stop.result ≡ min a.right (2 * half_up a.w.width)
+stops l =
+    l.least-stop.ensures ∙ ap (λ (m : ℕ). min l.args.right (2 * m)) l.half_up-wide.ensures
+
+-- the planes' lengths fit in the machine word
+fit : (s : Start) → let fits : ℕ → Type 0 = λ n. n < 18446744073709551616 in fits (length s.args.u.now) × fits (length s.args.vu.now)
+fit s = (search rules, search rules)
+
+-- what is written lies in the picture's planes, and what is read in the view's rows
+in-planes : (n : After-stride)
+    → let a = n.args in
+    let end : ℕ = a.row * n.stride.result + n.least-stop.result in
+    (a.left ≤ n.least-stop.result) × (end ≤ length a.u.now) × (end ≤ length a.v.now) × (end < 18446744073709551616)
+in-planes n =
+    let a = n.args in
+    let below : n.least-stop.result ≤ a.right = omega (arith, (let inl : (let a = n.args in n.least-stop.result ≡ min a.right (2 * half_up a.w.width)) = n.least-stop.ensures ∙ ap (λ (m : ℕ). min n.args.right (2 * m)) n.half_up-wide.ensures in inl)) in
+    let in-u = area_room a.size a.u.now a.row _ _ n.requires.area_fits _ n.stride.ensures.0 _ below in
+    let in-v = area_room a.size a.v.now a.row _ _ n.requires.area_fits_2 _ n.stride.ensures.0 _ below in
+    (omega (arith, n.if-stop-left.false), in-u, in-v, omega (arith, (fit n.before.before.before.before.before.before.before.before.before.before.before.before.before).0))
+
+in_view : (l : After-least-stop)
+    → let a = l.args in
+    let end : ℕ = l.in-At.at + l.least-stop.result / 2 in
+    (end ≤ length a.vu.now) × (end ≤ length a.vv.now) × (end < 18446744073709551616)
+in_view l =
+    let row = (let p = chroma_of l.args.w in
+    (omega (arith, (there l).1, (row_fits p _ (l.args.row / 2) l.requires.plane_fits (there l).0).0), omega (arith, (there l).1, (row_fits p _ (l.args.row / 2) l.requires.plane_fits_2 (there l).0).0))) in
+    let stop = stops l in
+    let wide = l.requires.plane_fits.wide in
+    (omega arith, omega arith, omega (arith, (fit l.before.before.before.before.before.before.before.before.before.before.before).1))
+
+pub row_start-requires : goal.row_start-requires
+row_start-requires c = rw c.half_up-high.ensures c.requires.plane_fits.long
+
+pub returns-in_default : goal.returns-in_default
+returns-in_default c =
+    let a = c.args in
+    let late = row_start_absent _ _ _ c.row_start.ensures c.in_default.is in
+    let none : (k : ℕ) → a.left ≤ k → k < a.right → fed V1 a.w.width a.w.height a.row k ≡ true → ⊥ =
+    λ k l h e. omega (arith, late, c.half_up-high.ensures, v1_even_facts a.w.width a.w.height a.row k c.requires.row_value e) in
+    record {
+      u = λ vy. columns_none _ _ a.row a.left _ a.right _ _ none;
+      v = λ vy. columns_none _ _ a.row a.left _ a.right _ _ none;
+    }
+
+pub returns-then-stop-left : goal.returns-then-stop-left
+returns-then-stop-left c =
+    let a = c.args in
+    let none : (k : ℕ) → a.left ≤ k → k < a.right → fed V1 a.w.width a.w.height a.row k ≡ true → ⊥ =
+    λ k low h e. omega (arith, c.if-stop-left.true, stops (goal.at.returns-then-stop-left c).After-least-stop, v1_even_facts a.w.width a.w.height a.row k c.requires.row_value e) in
+    record {
+      u = λ vy. columns_none _ _ a.row a.left _ a.right _ _ none;
+      v = λ vy. columns_none _ _ a.row a.left _ a.right _ _ none;
+    }
+
+pub overflow_mul-line : goal.overflow_mul-line
+overflow_mul-line c = omega (arith, in-planes (goal.at.overflow_mul-line c).After-stride)
+
+pub overflow_add-line : goal.overflow_add-line
+overflow_add-line c = omega (arith, in-planes (goal.at.overflow_add-line c).After-stride)
+
+pub overflow_add-line-2 : goal.overflow_add-line-2
+overflow_add-line-2 c = omega (arith, in-planes (goal.at.overflow_add-line-2 c).After-stride)
+
+pub slice_bounds-put_odds-count : goal.slice_bounds-put_odds-count
+slice_bounds-put_odds-count c = omega (arith, in-planes (goal.at.slice_bounds-put_odds-count c).After-stride)
+
+pub slice_bounds-put_odds-start : goal.slice_bounds-put_odds-start
+slice_bounds-put_odds-start c = omega (arith, in-planes (goal.at.slice_bounds-put_odds-start c).After-stride)
+
+pub slice_bounds-put_odds-end : goal.slice_bounds-put_odds-end
+slice_bounds-put_odds-end c = omega (arith, in-planes (goal.at.slice_bounds-put_odds-end c).After-stride)
+
+pub overflow_add-line-3 : goal.overflow_add-line-3
+overflow_add-line-3 c = omega (arith, in-planes (goal.at.overflow_add-line-3 c).After-stride)
+
+pub overflow_add-line-4 : goal.overflow_add-line-4
+overflow_add-line-4 c = omega (arith, in-planes (goal.at.overflow_add-line-4 c).After-stride)
+
+pub slice_bounds-put_odds-count-2 : goal.slice_bounds-put_odds-count-2
+slice_bounds-put_odds-count-2 c = omega (arith, in-planes (goal.at.slice_bounds-put_odds-count-2 c).After-stride)
+
+pub slice_bounds-put_odds-start-2 : goal.slice_bounds-put_odds-start-2
+slice_bounds-put_odds-start-2 c = omega (arith, in-planes (goal.at.slice_bounds-put_odds-start-2 c).After-stride)
+
+pub slice_bounds-put_odds-end-2 : goal.slice_bounds-put_odds-end-2
+slice_bounds-put_odds-end-2 c = omega (arith, in-planes (goal.at.slice_bounds-put_odds-end-2 c).After-stride)
+
+pub overflow_add-at : goal.overflow_add-at
+overflow_add-at c = omega (arith, in_view (goal.at.overflow_add-at c).After-least-stop, in-planes (goal.at.overflow_add-at c).After-stride)
+
+pub overflow_add-at-2 : goal.overflow_add-at-2
+overflow_add-at-2 c = omega (arith, in_view (goal.at.overflow_add-at-2 c).After-least-stop, in-planes (goal.at.overflow_add-at-2 c).After-stride)
+
+pub slice_bounds-put_odds-count-3 : goal.slice_bounds-put_odds-count-3
+slice_bounds-put_odds-count-3 c = omega (arith, in_view (goal.at.slice_bounds-put_odds-count-3 c).After-least-stop, in-planes (goal.at.slice_bounds-put_odds-count-3 c).After-stride)
+
+pub slice_bounds-put_odds-start-3 : goal.slice_bounds-put_odds-start-3
+slice_bounds-put_odds-start-3 c = omega (arith, in_view (goal.at.slice_bounds-put_odds-start-3 c).After-least-stop, in-planes (goal.at.slice_bounds-put_odds-start-3 c).After-stride)
+
+pub slice_bounds-put_odds-end-3 : goal.slice_bounds-put_odds-end-3
+slice_bounds-put_odds-end-3 c = omega (arith, in_view (goal.at.slice_bounds-put_odds-end-3 c).After-least-stop, in-planes (goal.at.slice_bounds-put_odds-end-3 c).After-stride)
+
+pub overflow_add-at-3 : goal.overflow_add-at-3
+overflow_add-at-3 c = omega (arith, in_view (goal.at.overflow_add-at-3 c).After-least-stop, in-planes (goal.at.overflow_add-at-3 c).After-stride)
+
+pub overflow_add-at-4 : goal.overflow_add-at-4
+overflow_add-at-4 c = omega (arith, in_view (goal.at.overflow_add-at-4 c).After-least-stop, in-planes (goal.at.overflow_add-at-4 c).After-stride)
+
+pub slice_bounds-put_odds-count-4 : goal.slice_bounds-put_odds-count-4
+slice_bounds-put_odds-count-4 c = omega (arith, in_view (goal.at.slice_bounds-put_odds-count-4 c).After-least-stop, in-planes (goal.at.slice_bounds-put_odds-count-4 c).After-stride)
+
+pub slice_bounds-put_odds-start-4 : goal.slice_bounds-put_odds-start-4
+slice_bounds-put_odds-start-4 c = omega (arith, in_view (goal.at.slice_bounds-put_odds-start-4 c).After-least-stop, in-planes (goal.at.slice_bounds-put_odds-start-4 c).After-stride)
+
+pub slice_bounds-put_odds-end-4 : goal.slice_bounds-put_odds-end-4
+slice_bounds-put_odds-end-4 c = omega (arith, in_view (goal.at.slice_bounds-put_odds-end-4 c).After-least-stop, in-planes (goal.at.slice_bounds-put_odds-end-4 c).After-stride)
+
+pub put_odds-requires : goal.put_odds-requires
+put_odds-requires c =
+    let p = c.requires.area_fits in
+    let even : c.least-stop.result % 2 ≡ 0 = omega (arith, p.even_right, stops (goal.at.put_odds-requires c).After-least-stop) in record {
+      u_len = copy_fits _ _ _ _ _ _ (in-planes (goal.at.put_odds-requires c).After-stride).1 (in-planes (goal.at.put_odds-requires c).After-stride).2 (in-planes (goal.at.put_odds-requires c).After-stride).0;
+      odds_fit = (
+        odds_fit _ _ _ _ (in-planes (goal.at.put_odds-requires c).After-stride).1 p.even_left even (in-planes (goal.at.put_odds-requires c).After-stride).0 _ _ (omega (arith, in_view (goal.at.put_odds-requires c).After-least-stop)),
+        odds_fit _ _ _ _ (in-planes (goal.at.put_odds-requires c).After-stride).2 p.even_left even (in-planes (goal.at.put_odds-requires c).After-stride).0 _ _ (omega (arith, in_view (goal.at.put_odds-requires c).After-least-stop)),
+      );
+    }
+
+pub returns : goal.returns
+returns c =
+    let a = c.args in
+    let p = (c.requires.area_fits, (c.requires.area_fits_2, (c.requires.plane_fits, (c.requires.plane_fits_2, c.requires.row_value)))) in record {
+      u = λ vy. v1_even_written CU a.size a.w vy a.vu.now a.vv.now a.u.now c.put_odds.new.u a.row a.left a.right c.least-stop.result c.stride.result c.in-At.at p.0 c.stride.ensures.0 (in-planes (goal.at.returns c).After-stride).0
+          a.vu.now (λ r k. refl) p.1.1.1.1 (there (goal.at.returns c).In-At).0 (there (goal.at.returns c).In-At).1 (stops (goal.at.returns c).After-least-stop) c.put_odds.ensures.u;
+      v = λ vy. v1_even_written CV a.size a.w vy a.vu.now a.vv.now a.v.now c.put_odds.new.v a.row a.left a.right c.least-stop.result c.stride.result c.in-At.at p.1.0 c.stride.ensures.0 (in-planes (goal.at.returns c).After-stride).0
+          a.vv.now (λ r k. refl) p.1.1.1.1 (there (goal.at.returns c).In-At).0 (there (goal.at.returns c).In-At).1 (stops (goal.at.returns c).After-least-stop) c.put_odds.ensures.v;
+    }
