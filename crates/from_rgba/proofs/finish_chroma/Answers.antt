@@ -14,7 +14,11 @@ pub put_edge-requires : goal.put_edge-requires
 put_edge-requires c = c.requires
 
 pub average_plane-requires : goal.average_plane-requires
-average_plane-requires c = let whole = rw (c.stride-stride.ensures.0, c.rows-rows.ensures.0, c.put_edge.auto.plane) (c.requires, (omega arith, omega arith)) in record { stride_in_bounds = whole.0; stride_value = whole.1.0; rows_value = whole.1.1 }
+average_plane-requires c = record {
+  stride_in_bounds = rw (c.stride-stride.ensures.0, c.rows-rows.ensures.0, c.put_edge.auto.plane) c.requires;
+  stride_value = omega arith;
+  rows_value = omega arith;
+}
 
 pub shape_of-plane : goal.shape_of-plane
 shape_of-plane c = c.average_plane.auto.plane ∙ c.put_edge.auto.plane

@@ -29,14 +29,14 @@ returns-then-number-ne0 c =
     let down = c.clipped-h.ensures in
     let is = numbered a.size a.rect across down _ _ _ _ c.to_rgba_number-number.ensures in
     ⊎_elim
-    (λ some. pixels_refused _ _ is _ _ _ some.taken c.none.ensures)
-    (λ none. let zero : c.to_rgba_number-number.result ≡ 0 = none.0.left in
-    let empty = sym (counted a.size a.rect across down) ∙ eqb-true _ 0 none.1.taken in
+    (λ some. pixels_refused _ _ is _ _ _ some c.none.ensures)
+    (λ none. let zero : c.to_rgba_number-number.result ≡ 0 = none.0 in
+    let empty = sym (counted a.size a.rect across down) ∙ none.1 in
     let unfiltered = empty_unfiltered a.size a.rect empty in
     pixels_answered _ _ is _ _ _ zero
     (c.none.ensures ∙ (λ i. pixels_of (zero i) (sym empty i) (unfiltered a.u.now i) (unfiltered a.v.now i)))
     (empty_unchanged a.size a.rect empty a.y.now a.u.now a.v.now a.out.now))
-    c.then-number-ne0.branch
+    c.then-number-ne0.either
 
 pub put_rows-filtered-requires : goal.put_rows-filtered-requires
 put_rows-filtered-requires c =

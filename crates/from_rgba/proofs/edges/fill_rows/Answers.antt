@@ -38,9 +38,9 @@ row_inside : (c : In-loop-row) →
     (c.loop-row.row * w + w ≤ length c.loop-row.plane) × ((c.args.height - 1) * w + w ≤ c.loop-row.row * w)
 row_inside c =
     let w = c.round_up_16-stride.result in
-    let f = ((rw (c.round_up_16-rows.ensures, c.round_up_16-stride.ensures) c.requires.width_in_bounds, c.requires.height_nonzero, omega (arith, c.round_up_16-rows.ensures))) in (
-      omega (arith, f.0, row_in w c.round_up_16-rows.result c.loop-row.row c.loop-row-test.true),
-      row_after w (c.args.height - 1) c.loop-row.row (omega (arith, f.1, c.loop-row.invariant.0)),
+    let inside : c.round_up_16-rows.result * w ≤ length c.args.plane.now = rw (c.round_up_16-rows.ensures, c.round_up_16-stride.ensures) c.requires.width_in_bounds in (
+      omega (arith, inside, row_in w c.round_up_16-rows.result c.loop-row.row c.loop-row-test.true),
+      row_after w (c.args.height - 1) c.loop-row.row (omega (arith, c.requires.height_nonzero, c.loop-row.invariant.0)),
     )
 
 pub overflow_mul-row : goal.overflow_mul-row

@@ -49,4 +49,4 @@ returns c =
     let is = c.across-wide.ensures.0 in
     box_rows_all _ _ _ _ (down_of c.args.size) c.loop-i.i c.loop-i.invariant (omega arith) c.requires.rows_inside
     (map_room c.args.size _ c.args.area _ is c.requires)
-    ∙ ap (λ (w : ℕ). painted w (down_of c.args.size) (in_area c.args.area) (λ r c. c.args.value) c.args.map.now) is
+    ∙ ap (λ (w : ℕ). painted w (down_of c.args.size) (in_area c.args.area) (λ r k. c.args.value) c.args.map.now) is

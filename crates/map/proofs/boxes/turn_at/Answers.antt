@@ -4,7 +4,6 @@ use Prim.Native.Nat.{ℕ}
 use native.Mathlib.Omega.{arith}
 use mathlib.Core.Path.{◌≡◌, refl, sym, ap, ◌∙◌}
 use mathlib.Core.Bool.{false}
-use mathlib.Core.Logic.{⊎_elim}
 use mathlib.Core.List.{List}
 use lib.Dec.{eqb}
 use lib.ListN.{get_or, set}
@@ -12,7 +11,7 @@ use borrow.Author.Tests.{eq-eqb, ne_eqb}
 use Rattle.lent.proofs.Bools.{cond-true, cond-false}
 use Rattle.lent.proofs.Paint.{paint_none, paint-set}
 use Rattle.map.specs.Map.{turned_of}
-use Rattle.map.proofs.boxes.turn_at.Goals.{Joined-b-eq1}
+use Rattle.map.proofs.boxes.turn_at.Goals.{Joined-b-eq1, then-b-eq1, else-b-eq1}
 use Rattle.map.proofs.boxes.turn_at.Goals as goal
 
 -- what is put at k
@@ -20,10 +19,10 @@ chosen : (c : Joined-b-eq1) → let a = c.args in c.if-b-eq1.dst ≡ turned_of (
 chosen c =
     let a = c.args in
     let b : ℕ = get_or a.dst.now a.k 0 in
-    ⊎_elim
-    (λ w. w.1 ∙ sym (cond-true (eqb b 1) 2 b (eq-eqb b 1 w.0.taken)))
-    (λ w. w.1 ∙ sym (cond-false (eqb b 1) 2 b (ne_eqb b 1 w.0.left)))
-    c.if-b-eq1.branch
+    elim c.if-b-eq1.branch [
+      | then-b-eq1 w ↦ w.dst-is ∙ sym (cond-true (eqb b 1) 2 b (eq-eqb b 1 w.if-b-eq1.true))
+      | else-b-eq1 w ↦ w.dst-is ∙ sym (cond-false (eqb b 1) 2 b (ne_eqb b 1 w.if-b-eq1.false))
+    ]
 
 pub returns-after-b-eq1 : goal.returns-after-b-eq1
 returns-after-b-eq1 c =
