@@ -5,6 +5,8 @@
 // byte is wrong, in registers, as the writers of split_rows read them; the part that has one, and what is left then, is looked at byte
 // by byte. All of a row has loops of its own: by those of the others a picture of 48x48 took a third longer. Past the stride there are 4,
 // 8 or 16 columns, or none, which is asked first: parts of 8 are enough there.
+#![tactic(auto)]
+
 pub mod parts; // is some byte of a part wrong?
 
 ghost use Rattle.std.specs.Prelude.{◌≡◌, ◌+◌, ◌*◌, ◌<◌, ◌≤◌, length, get_or};

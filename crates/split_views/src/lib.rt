@@ -2,6 +2,8 @@
 // view are written in `auxiliary`.
 //
 // Each writer promises every byte of the plane that it is lent, and no byte after it. One row at a time, by the writers of split_rows.
+#![tactic(auto)]
+
 pub mod auxiliary; // the auxiliary view
 pub mod auxiliary_rows; // one row of it
 
