@@ -9,7 +9,7 @@
 pub mod one; // one way's calls
 
 ghost use Rattle.std.specs.Prelude.{◌≡◌};
-ghost use Rattle.split.specs.Split.{at_entry, at_exit, split_number_of};
+ghost use Rattle.split.specs.Split.{at_entry, at_exit, split_number_of, planes};
 ghost use Rattle.agree_law.specs.Through.{first_of, earlier_number_of};
 ghost use Rattle.agree_law.specs.Both.{BothOutcome};
 
@@ -66,7 +66,7 @@ pub fn both(
     second_v: &mut [u8],
     second_map: &mut [u8],
 ) -> lent::Answer
-    ensures { BothOutcome one other size rects.now (at_entry y u v)
+    ensures { BothOutcome one other size rects.now (planes y.now u.now v.now)
         (at_entry main_y main_u main_v) (at_entry auxiliary_y auxiliary_u auxiliary_v)
         (at_entry first_y first_u first_v) first_map.old
         (at_entry second_y second_u second_v) second_map.old result

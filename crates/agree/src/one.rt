@@ -6,7 +6,7 @@
 // it writes anything; a refusal changes no byte. Number and every lent byte are equations (agree_law/specs/Through.antt), and 0 comes with
 // the theorem.
 ghost use Rattle.std.specs.Prelude.{◌≡◌};
-ghost use Rattle.split.specs.Split.{at_entry, at_exit, split_number_of};
+ghost use Rattle.split.specs.Split.{at_entry, at_exit, split_number_of, planes};
 ghost use Rattle.agree_law.specs.Through.{view_in, first_of, earlier_number_of, ThroughOutcome};
 
 use layout::Way;
@@ -83,7 +83,7 @@ pub fn through(
     qv: &mut [u8],
     q_map: &mut [u8],
 ) -> lent::Answer
-    ensures { ThroughOutcome way size rects.now (at_entry y u v)
+    ensures { ThroughOutcome way size rects.now (planes y.now u.now v.now)
         (at_entry main_y main_u main_v) (at_entry auxiliary_y auxiliary_u auxiliary_v) (at_entry qy qu qv) q_map.old result
         (at_exit main_y main_u main_v) (at_exit auxiliary_y auxiliary_u auxiliary_v) (at_exit qy qu qv) q_map.new }
 {

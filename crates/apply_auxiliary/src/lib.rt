@@ -3,6 +3,8 @@
 // A call's outcome is an equation over its inputs (specs/Auxiliary.antt): the number, and every byte of Y, U and V afterwards. A chroma
 // sample is taken when some rectangle's widened area has it and the view has it for U and for V; Y is lent and never written. The laws
 // that a caller leans on are in proofs/Laws.antt.
+#![tactic(auto)]
+
 ghost use Rattle.std.specs.Prelude.{◌≡◌, [], ◌∷◌, ◌*◌, ◌%◌, ◌≤◌, length};
 ghost use Rattle.lent.specs.Paint.{painted};
 ghost use Rattle.picture.specs.Sizes.{stride_of, rows_of};

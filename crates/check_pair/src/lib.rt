@@ -9,7 +9,7 @@ pub mod planes; // the verdict on a plane, a view and both
 pub mod rows; // a row of a view beside what the split has there
 
 ghost use Rattle.std.specs.Prelude.{◌≡◌};
-ghost use Rattle.split.specs.Split.{at_entry};
+ghost use Rattle.split.specs.Split.{planes};
 ghost use Rattle.check_pair.specs.Checked.{answered_of, refused_with, checked_of};
 
 use layout::Way;
@@ -119,8 +119,8 @@ pub fn check(
     auxiliary_u: &[u8],
     auxiliary_v: &[u8],
 ) -> Checked
-    ensures { result ≡ checked_of way size (at_entry y u v) main (at_entry main_y main_u main_v)
-        auxiliary (at_entry auxiliary_y auxiliary_u auxiliary_v) }
+    ensures { result ≡ checked_of way size (planes y.now u.now v.now) main (planes main_y.now main_u.now main_v.now)
+        auxiliary (planes auxiliary_y.now auxiliary_u.now auxiliary_v.now) }
 {
     let number = number::check_number(
         way,

@@ -1,7 +1,7 @@
 // The number of a check, found from sizes and lengths alone: the picture's refusals, which are a split's 1 and 5, then 3 and 4 of the main
 // view, then 3 and 4 of the auxiliary one. And whether a view has the sizes of the split's.
 ghost use Rattle.std.specs.Prelude.{◌≡◌};
-ghost use Rattle.split.specs.Split.{at_entry, lengths_of};
+ghost use Rattle.split.specs.Split.{lengths_of, planes};
 ghost use Rattle.check_pair.specs.Number.{check_number_of, sizes_agree};
 
 use layout::Way;
@@ -24,8 +24,8 @@ pub fn check_number(
     auxiliary_u: &[u8],
     auxiliary_v: &[u8],
 ) -> u32
-    ensures { result ≡ check_number_of way size (lengths_of (at_entry y u v)) main (lengths_of (at_entry main_y main_u main_v))
-        auxiliary (lengths_of (at_entry auxiliary_y auxiliary_u auxiliary_v)) }
+    ensures { result ≡ check_number_of way size (lengths_of (planes y.now u.now v.now)) main (lengths_of (planes main_y.now main_u.now main_v.now))
+        auxiliary (lengths_of (planes auxiliary_y.now auxiliary_u.now auxiliary_v.now)) }
 {
     if picture::planes_short(size, y.len(), u.len(), v.len()) {
         return 1;

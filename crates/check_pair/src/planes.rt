@@ -1,7 +1,7 @@
 // The verdict on a plane, on a view and on both: row by row, plane by plane, view by view, and the first sample that is wrong.
 ghost use Rattle.std.specs.Prelude.{◌≡◌, length};
 ghost use Rattle.view.specs.View.{ViewFits};
-ghost use Rattle.split.specs.Split.{planes, at_entry, lengths_of};
+ghost use Rattle.split.specs.Split.{planes, lengths_of};
 ghost use Rattle.check_pair.specs.Number.{check_number_of};
 ghost use Rattle.check_pair.specs.Verdict.{part_of, index_of, order_of, held_of, first_in, plane_verdict_of, view_verdict_of};
 ghost use Rattle.check_pair.specs.Verdict.{pair_verdict_of};
@@ -48,7 +48,7 @@ fn plane_first(
     requires plane_whole { PlaneWhole name layout p (length plane.now) (length y.now) stride }
     requires plane_whole_2 { PlaneWhole name layout p (length plane.now) (length u.now) stride }
     requires plane_whole_3 { PlaneWhole name layout p (length plane.now) (length v.now) stride }
-    ensures { result ≡ first_in (held_of sent layout stride (at_entry y u v) (part_of name)) p plane.now }
+    ensures { result ≡ first_in (held_of sent layout stride (planes y.now u.now v.now) (part_of name)) p plane.now }
 {
     let n = p.width;
     let mut line = 0;
@@ -89,7 +89,7 @@ fn plane_verdict(
     requires plane_whole_2 { PlaneWhole name layout p (length plane.now) (length u.now) stride }
     requires plane_whole_3 { PlaneWhole name layout p (length plane.now) (length v.now) stride }
     ensures { result ≡ plane_verdict_of (order_of sent) (index_of name)
-        (held_of sent layout stride (at_entry y u v) (part_of name)) p plane.now }
+        (held_of sent layout stride (planes y.now u.now v.now) (part_of name)) p plane.now }
 {
     let found = plane_first(sent, layout, name, plane, p, y, u, v, stride);
     if found < p.height * p.width {
@@ -120,7 +120,7 @@ fn view_verdict(
     requires view_whole { ViewWhole layout w (length y.now) stride }
     requires view_whole_2 { ViewWhole layout w (length u.now) stride }
     requires view_whole_3 { ViewWhole layout w (length v.now) stride }
-    ensures { result ≡ view_verdict_of sent layout stride (at_entry y u v) w (at_entry vy vu vv) }
+    ensures { result ≡ view_verdict_of sent layout stride (planes y.now u.now v.now) w (planes vy.now vu.now vv.now) }
 {
     let luma = plane_verdict(
         sent,
@@ -182,8 +182,8 @@ pub fn pair_verdict(
     requires { check_number_of way size (lengths_of (planes y.now u.now v.now))
         main (lengths_of (planes main_y.now main_u.now main_v.now))
         auxiliary (lengths_of (planes auxiliary_y.now auxiliary_u.now auxiliary_v.now)) ≡ 0 }
-    ensures { result ≡ pair_verdict_of way size (at_entry y u v) main (at_entry main_y main_u main_v)
-        auxiliary (at_entry auxiliary_y auxiliary_u auxiliary_v) }
+    ensures { result ≡ pair_verdict_of way size (planes y.now u.now v.now) main (planes main_y.now main_u.now main_v.now)
+        auxiliary (planes auxiliary_y.now auxiliary_u.now auxiliary_v.now) }
 {
     if !crate::number::sizes_agree(way, size, main) {
         return Verdict::Sizes;

@@ -5,7 +5,7 @@ ghost use Rattle.std.specs.Prelude.{◌≡◌, ◌/◌, ◌%◌, length};
 ghost use Rattle.layout.specs.Maps.{PY, view_wide_of};
 ghost use Rattle.layout.specs.declared.Layout.TheVariants.{V1, V2};
 ghost use Rattle.split_rows.specs.Fits.{WideFits};
-ghost use Rattle.split_views.specs.Views.{at_entry, main_sample, auxiliary_sample};
+ghost use Rattle.split_views.specs.Views.{main_sample, auxiliary_sample, planes};
 ghost use Rattle.check_rows.specs.Rows.{first_wrong, step_of};
 ghost use Rattle.check_pair.specs.declared.Name.TheVariants.{YPlane};
 ghost use Rattle.check_pair.specs.Verdict.{part_of, held_of};
@@ -45,7 +45,7 @@ fn main_row(
     requires line_fits { LineFits name (length row.now) (length y.now) stride line }
     requires line_fits_2 { LineFits name (length row.now) (length u.now) stride line }
     requires line_fits_3 { LineFits name (length row.now) (length v.now) stride line }
-    ensures { result ≡ first_wrong row.now (main_sample stride (at_entry y u v) (part_of name) line) }
+    ensures { result ≡ first_wrong row.now (main_sample stride (planes y.now u.now v.now) (part_of name) line) }
 {
     match name {
         Name::YPlane => check_rows::copied_row(row, y, stride, line, 0),
@@ -112,7 +112,7 @@ pub fn held_row(
     requires line_fits_2 { LineFits name (length row.now) (length u.now) stride line }
     requires line_fits_3 { LineFits name (length row.now) (length v.now) stride line }
     requires row_value { full_of name (length row.now) ≡ view_wide_of layout stride }
-    ensures { result ≡ first_wrong row.now (held_of sent layout stride (at_entry y u v) (part_of name) line) }
+    ensures { result ≡ first_wrong row.now (held_of sent layout stride (planes y.now u.now v.now) (part_of name) line) }
 {
     match sent {
         Sent::Main => main_row(name, row, y, u, v, stride, line),

@@ -2,7 +2,7 @@
 ghost use Rattle.std.specs.Prelude.{◌≡◌};
 ghost use Rattle.layout.specs.declared.Way.TheVariants.{AsV1, AsV2};
 ghost use Rattle.layout.specs.declared.WidthRule.TheVariants.{To16, To32};
-ghost use Rattle.split.specs.Split.{at_entry};
+ghost use Rattle.split.specs.Split.{planes};
 ghost use Rattle.check_pair.specs.Checked.{checked_of};
 ghost use Rattle.haythaw.specs.Sizes.{sizes_of, size_of};
 
@@ -35,10 +35,10 @@ pub extern "C" fn haythaw_check_v1(
     auxiliary_u: &[u8],
     auxiliary_v: &[u8],
 ) -> Checked
-    ensures { result ≡ checked_of AsV1 (size_of width height) (at_entry y u v)
-        (sizes_of main_width main_height main_luma_stride main_chroma_stride) (at_entry main_y main_u main_v)
+    ensures { result ≡ checked_of AsV1 (size_of width height) (planes y.now u.now v.now)
+        (sizes_of main_width main_height main_luma_stride main_chroma_stride) (planes main_y.now main_u.now main_v.now)
         (sizes_of auxiliary_width auxiliary_height auxiliary_luma_stride auxiliary_chroma_stride)
-        (at_entry auxiliary_y auxiliary_u auxiliary_v) }
+        (planes auxiliary_y.now auxiliary_u.now auxiliary_v.now) }
 {
     let main = View {
         width: main_width,
@@ -93,10 +93,10 @@ pub extern "C" fn haythaw_check_v2(
     auxiliary_u: &[u8],
     auxiliary_v: &[u8],
 ) -> Checked
-    ensures { result ≡ checked_of (AsV2 To16) (size_of width height) (at_entry y u v)
-        (sizes_of main_width main_height main_luma_stride main_chroma_stride) (at_entry main_y main_u main_v)
+    ensures { result ≡ checked_of (AsV2 To16) (size_of width height) (planes y.now u.now v.now)
+        (sizes_of main_width main_height main_luma_stride main_chroma_stride) (planes main_y.now main_u.now main_v.now)
         (sizes_of auxiliary_width auxiliary_height auxiliary_luma_stride auxiliary_chroma_stride)
-        (at_entry auxiliary_y auxiliary_u auxiliary_v) }
+        (planes auxiliary_y.now auxiliary_u.now auxiliary_v.now) }
 {
     let main = View {
         width: main_width,
@@ -151,10 +151,10 @@ pub extern "C" fn haythaw_check_v2_32(
     auxiliary_u: &[u8],
     auxiliary_v: &[u8],
 ) -> Checked
-    ensures { result ≡ checked_of (AsV2 To32) (size_of width height) (at_entry y u v)
-        (sizes_of main_width main_height main_luma_stride main_chroma_stride) (at_entry main_y main_u main_v)
+    ensures { result ≡ checked_of (AsV2 To32) (size_of width height) (planes y.now u.now v.now)
+        (sizes_of main_width main_height main_luma_stride main_chroma_stride) (planes main_y.now main_u.now main_v.now)
         (sizes_of auxiliary_width auxiliary_height auxiliary_luma_stride auxiliary_chroma_stride)
-        (at_entry auxiliary_y auxiliary_u auxiliary_v) }
+        (planes auxiliary_y.now auxiliary_u.now auxiliary_v.now) }
 {
     let main = View {
         width: main_width,

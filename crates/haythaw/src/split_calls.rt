@@ -2,7 +2,7 @@
 ghost use Rattle.std.specs.Prelude.{[], ◌∷◌};
 ghost use Rattle.layout.specs.declared.Way.TheVariants.{AsV1, AsV2};
 ghost use Rattle.layout.specs.declared.WidthRule.TheVariants.{To16, To32};
-ghost use Rattle.split.specs.Split.{at_entry, SplitOutcome};
+ghost use Rattle.split.specs.Split.{at_entry, SplitOutcome, planes};
 ghost use Rattle.haythaw.specs.Sizes.{size_of};
 
 use layout::{Way, WidthRule};
@@ -24,7 +24,7 @@ pub extern "C" fn haythaw_split_v1(
     auxiliary_u: &mut [u8],
     auxiliary_v: &mut [u8],
 ) -> Views
-    ensures { SplitOutcome AsV1 (size_of width height) (at_entry y u v)
+    ensures { SplitOutcome AsV1 (size_of width height) (planes y.now u.now v.now)
         (at_entry main_y main_u main_v) (at_entry auxiliary_y auxiliary_u auxiliary_v) result
         (main_y.new ∷ main_u.new ∷ main_v.new
         ∷ auxiliary_y.new ∷ auxiliary_u.new ∷ auxiliary_v.new ∷ []) }
@@ -59,7 +59,7 @@ pub extern "C" fn haythaw_split_v2(
     auxiliary_u: &mut [u8],
     auxiliary_v: &mut [u8],
 ) -> Views
-    ensures { SplitOutcome (AsV2 To16) (size_of width height) (at_entry y u v)
+    ensures { SplitOutcome (AsV2 To16) (size_of width height) (planes y.now u.now v.now)
         (at_entry main_y main_u main_v) (at_entry auxiliary_y auxiliary_u auxiliary_v) result
         (main_y.new ∷ main_u.new ∷ main_v.new
         ∷ auxiliary_y.new ∷ auxiliary_u.new ∷ auxiliary_v.new ∷ []) }
@@ -95,7 +95,7 @@ pub extern "C" fn haythaw_split_v2_32(
     auxiliary_u: &mut [u8],
     auxiliary_v: &mut [u8],
 ) -> Views
-    ensures { SplitOutcome (AsV2 To32) (size_of width height) (at_entry y u v)
+    ensures { SplitOutcome (AsV2 To32) (size_of width height) (planes y.now u.now v.now)
         (at_entry main_y main_u main_v) (at_entry auxiliary_y auxiliary_u auxiliary_v) result
         (main_y.new ∷ main_u.new ∷ main_v.new
         ∷ auxiliary_y.new ∷ auxiliary_u.new ∷ auxiliary_v.new ∷ []) }

@@ -4,7 +4,7 @@
 // Promised: every byte of the planes of both views, and no byte after them. `split` tests the lengths first.
 ghost use Rattle.std.specs.Prelude.{length};
 ghost use Rattle.picture.specs.Sizes.{stride_of, rows_of};
-ghost use Rattle.split_views.specs.Views.{at_entry, at_exit, main_sample, auxiliary_sample, Written};
+ghost use Rattle.split_views.specs.Views.{at_entry, at_exit, main_sample, auxiliary_sample, Written, planes};
 ghost use Rattle.split.specs.Number.{split_layout_of, split_wide_of};
 ghost use Rattle.split_views.specs.Fits.{MacroblocksFit, Room};
 
@@ -32,7 +32,7 @@ pub fn both_views(
     requires room_2 { Room (length auxiliary_y.old) (length auxiliary_u.old) (length auxiliary_v.old)
         (split_wide_of way size) (rows_of size) }
     ensures written { Written (split_wide_of way size) (rows_of size)
-        (main_sample (stride_of size) (at_entry y u v))
+        (main_sample (stride_of size) (planes y.now u.now v.now))
         (at_entry main_y main_u main_v) (at_exit main_y main_u main_v) }
     ensures written_2 { Written (split_wide_of way size) (rows_of size)
         (auxiliary_sample (split_layout_of way size) (stride_of size) u.now v.now)

@@ -8,7 +8,7 @@ pub mod both; // both views, written
 pub mod number; // 1, 5 or 6, and the answer
 
 ghost use Rattle.std.specs.Prelude.{[], ◌∷◌};
-ghost use Rattle.split.specs.Split.{at_entry, SplitOutcome};
+ghost use Rattle.split.specs.Split.{at_entry, SplitOutcome, planes};
 
 pub use crate::number::{PlaneLengths, Views, split_number};
 use layout::Way;
@@ -27,7 +27,7 @@ pub fn split(
     auxiliary_u: &mut [u8],
     auxiliary_v: &mut [u8],
 ) -> Views
-    ensures { SplitOutcome way size (at_entry y u v)
+    ensures { SplitOutcome way size (planes y.now u.now v.now)
         (at_entry main_y main_u main_v) (at_entry auxiliary_y auxiliary_u auxiliary_v) result
         (main_y.new ∷ main_u.new ∷ main_v.new
         ∷ auxiliary_y.new ∷ auxiliary_u.new ∷ auxiliary_v.new ∷ []) }

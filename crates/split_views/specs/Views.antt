@@ -1,7 +1,7 @@
 -- What the two views of a split hold (R80 to R82, R84).
 --
 --   Planes, planes y u v     three lent buffers: those of the picture, of the main view, of the auxiliary view
---   at_entry y u v, at_exit y u v    the same of three parameters of a call: what they hold when it begins, and when it is over
+--   at_entry y u v, at_exit y u v    the same of three buffers that a call may write: what they hold when it begins, and when it is over
 --   main_sample stride p q r c    the main view's plane q, at row r and column c: "Main: the luma plane and the even-even chroma". A view may
 --                            be wider than the stride: it then holds Y 0, and U and V 128 (`seen`)
 --   pick_chroma k u v           the picture's chroma plane k
@@ -12,7 +12,7 @@
 --   Written wide rows s old new    a view of wide by rows that holds s was written over three buffers: every byte of its planes, and
 --                            no other
 use Rattle.std.specs.Prelude.{ℕ, ◌+◌, ◌*◌, ◌/◌, ◌≡◌, List}
-use Rattle.std.specs.Borrow.{Bor}
+use Rattle.std.specs.Borrow.{MutBor}
 use denote.Triple.Both.{Both}
 use Rattle.lent.specs.Paint.{painted, whole}
 use Rattle.layout.specs.Maps.{Part, PY, PU, PV, Place, spot, half_of, into, maps}
@@ -29,9 +29,9 @@ pub record Planes : Type 0 where
 abbrev pub planes : List ℕ → List ℕ → List ℕ → Planes
 planes y u v = record { y = y; u = u; v = v }
 
--- a lent buffer, as a contract names it: at the call's entry and at its exit
+-- a buffer that is lent to be written, as a contract names it: at the call's entry and at its exit
 abbrev pub LentBytes : Type 0
-LentBytes = Both (Bor (List ℕ)) (Bor (List ℕ))
+LentBytes = Both (MutBor (List ℕ)) (MutBor (List ℕ))
 
 abbrev pub at_entry : LentBytes → LentBytes → LentBytes → Planes
 at_entry y u v = planes y.entry.now u.entry.now v.entry.now

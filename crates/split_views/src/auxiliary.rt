@@ -5,7 +5,7 @@
 ghost use Rattle.std.specs.Prelude.{◌≡◌, ◌+◌, ◌*◌, ◌/◌, ◌<◌, ◌≤◌, length};
 ghost use Rattle.lent.specs.Paint.{painted, whole};
 ghost use Rattle.layout.specs.Maps.{PY, view_wide_of};
-ghost use Rattle.split_views.specs.Views.{at_entry, at_exit, auxiliary_sample, v2_chroma_sample, Written};
+ghost use Rattle.split_views.specs.Views.{at_entry, at_exit, auxiliary_sample, v2_chroma_sample, Written, planes};
 ghost use Rattle.split_views.specs.Fits.{MacroblocksFit, WideEnough, Room};
 ghost use Rattle.split_views.specs.Chroma.{chroma_sample};
 

@@ -9,7 +9,7 @@ pub mod auxiliary_rows; // one row of it
 
 ghost use Rattle.std.specs.Prelude.{◌≡◌, ◌+◌, ◌*◌, ◌/◌, ◌<◌, ◌≤◌, length};
 ghost use Rattle.lent.specs.Paint.{painted, whole};
-ghost use Rattle.split_views.specs.Views.{at_entry, at_exit, seen, main_sample, Written};
+ghost use Rattle.split_views.specs.Views.{at_entry, at_exit, seen, main_sample, Written, planes};
 ghost use Rattle.split_views.specs.Fits.{MacroblocksFit, Room};
 
 // The luma plane, and 0 past the stride.
@@ -77,7 +77,7 @@ pub fn main_view(
     requires macroblocks_fit_3 { MacroblocksFit (length v.now) stride rows }
     requires stride_le_wide { stride ≤ wide }
     requires room { Room (length main_y.old) (length main_u.old) (length main_v.old) wide rows }
-    ensures { Written wide rows (main_sample stride (at_entry y u v))
+    ensures { Written wide rows (main_sample stride (planes y.now u.now v.now))
         (at_entry main_y main_u main_v) (at_exit main_y main_u main_v) }
 {
     main_luma(main_y, y, stride, wide, rows);

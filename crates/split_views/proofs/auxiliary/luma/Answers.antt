@@ -33,14 +33,13 @@ luma_row-requires c =
     let a = c.args in
     let le : c.loop-row.row - c.loop-row.row % 16 + 16 ≤ a.rows = omega (arith, c.requires.macroblocks_fit.high) in
     let blocks = mul-le-mul_right a.stride le in
-    let q = c.requires.1 in
     record {
       out_len = search rules;
-      wide_enough = q.1.1.0;
-      wide_value = q.1.1.1;
-      stride_value = q.0.wide;
-      block_fits = le_trans blocks q.0.fits;
-      block_fits_2 = le_trans blocks q.1.0.fits;
+      wide_enough = c.requires.wide_enough;
+      wide_value = c.requires.wide_value;
+      stride_value = c.requires.macroblocks_fit.wide;
+      block_fits = le_trans blocks c.requires.macroblocks_fit.fits;
+      block_fits_2 = le_trans blocks c.requires.macroblocks_fit_2.fits;
     }
 
 pub loop-row-preserved : goal.loop-row-preserved

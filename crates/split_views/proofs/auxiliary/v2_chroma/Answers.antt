@@ -30,14 +30,13 @@ pub v2_chroma_row-requires : goal.v2_chroma_row-requires
 v2_chroma_row-requires c =
     let a = c.args in
     let inside = row_in a.stride a.rows (2 * c.loop-row.row + 1) (omega (arith, c.requires.macroblocks_fit.high)) in
-    let q = c.requires.1 in
     record {
-      out_value = omega (arith, q.1.1.0.fours);
-      wide_enough = q.1.1.0;
-      stride_value = q.0.wide;
-      stride_in_bounds = omega (arith, inside, q.0.fits);
-      stride_in_bounds_2 = omega (arith, inside, q.1.0.fits);
-      first_bound = q.1.1.1;
+      out_value = omega (arith, c.requires.wide_enough.fours);
+      wide_enough = c.requires.wide_enough;
+      stride_value = c.requires.macroblocks_fit.wide;
+      stride_in_bounds = omega (arith, inside, c.requires.macroblocks_fit.fits);
+      stride_in_bounds_2 = omega (arith, inside, c.requires.macroblocks_fit_2.fits);
+      first_bound = c.requires.first_bound;
     }
 
 pub loop-row-preserved : goal.loop-row-preserved

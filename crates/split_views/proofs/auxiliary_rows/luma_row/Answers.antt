@@ -14,19 +14,18 @@ pub v1_luma_row-requires : goal.v1_luma_row-requires
 v1_luma_row-requires c = let wide : c.args.wide ≡ c.args.stride = c.requires.wide_value ∙ ap (λ (t : Layout). view_wide_of t c.args.stride) c.in-V1.is in
     record {
       out_len = c.requires.out_len ∙ wide;
-      block_fits = c.requires.1.1.1.1.0;
-      block_fits_2 = c.requires.1.1.1.1.1;
+      block_fits = c.requires.block_fits;
+      block_fits_2 = c.requires.block_fits_2;
     }
 
 pub v2_luma_row-requires : goal.v2_luma_row-requires
 v2_luma_row-requires c =
-    let q = c.requires.1.1.1 in
     record {
       out_len = c.requires.out_len;
       wide_enough = c.requires.wide_enough;
-      stride_value = q.0;
-      stride_in_bounds = row_fits _ c.args.stride c.args.row q.1.0;
-      stride_in_bounds_2 = row_fits _ c.args.stride c.args.row q.1.1;
+      stride_value = c.requires.stride_value;
+      stride_in_bounds = row_fits _ c.args.stride c.args.row c.requires.block_fits;
+      stride_in_bounds_2 = row_fits _ c.args.stride c.args.row c.requires.block_fits_2;
     }
 
 pub returns-in-V1 : goal.returns-in-V1
