@@ -2,6 +2,8 @@
 //
 // A call finds its number with the map, then runs the call that has no map (picture, from_rgba, to_rgba), then sets every block, or counts the
 // pixels of blocks that are not complete. Each promises its number, its counts and every byte of every buffer: a refusal alters nothing.
+#![tactic(auto)]
+
 ghost use Rattle.std.specs.Prelude.{◌≡◌, [], ◌∷◌, length};
 ghost use Rattle.colour.specs.declared.Matrix.TheVariants.{Full, Limited};
 ghost use Rattle.from_rgba.specs.declared.edges.Edge.TheVariants.{Fresh, Filled};

@@ -4,6 +4,8 @@
 // A split promises its number, the views' sizes and every byte of the six outputs, for every size and every length (specs/Split.antt):
 // each plane of a view is written whole, no byte after it changes, and a refusal writes nothing. Number and sizes are found in `number`,
 // and the planes are written in `both`.
+#![tactic(auto)]
+
 pub mod both; // both views, written
 pub mod number; // 1, 5 or 6, and the answer
 

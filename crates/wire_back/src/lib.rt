@@ -1,5 +1,7 @@
 // A payload written and read again, by the calls themselves: what the reader finds is what the writer was given. And a payload read and
 // written again: a standard one is written to the same bytes.
+#![tactic(auto)]
+
 ghost use Rattle.std.specs.Prelude.{◌≡◌, [], ◌∷◌, ◌*◌, ◌^◌, ◌<◌};
 ghost use Rattle.wire_write.specs.Writing.{given};
 ghost use Rattle.wire_back.specs.Back.{WriteReadOutcome, sizes_at, WriteAgain, read_write_number_of, ReadWriteOutcome};

@@ -3,14 +3,10 @@ use Prim.Native.Nat.{ℕ}
 use mathlib.Core.Path.{sym}
 use lib.Dec.{eqb}
 use Rattle.lent.proofs.Bools.{cond_same}
-use Rattle.map_picture.proofs.none.Statement.{statement}
-use Rattle.map_picture.proofs.none.Tie as tie
+use Rattle.map_picture.proofs.none.Goals as goal
 
-returns : tie.Need-returns
+pub returns : goal.returns
 returns c =
     let n = c.args.number in
     let zero = sym (cond_same {A = ℕ} (eqb n 0) 0) in
     λ i. record { number = n; count = zero i; filtered_u = zero i; filtered_v = zero i; stale = zero i }
-
-pub none_spec : {M : Type 1} → statement M
-none_spec = tie.close (tie.spec returns)

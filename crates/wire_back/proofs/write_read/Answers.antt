@@ -1,0 +1,17 @@
+-- `wire_back::write_read` meets its contract: what was written is read from the output.
+-- Assumes nothing.
+use Rattle.wire_write.specs.Writing.{given}
+use Rattle.wire_back.proofs.Written.{refused_ends, fits, read_ends}
+use Rattle.wire_back.proofs.write_read.Goals as goal
+
+pub returns-then-written-ne0 : goal.returns-then-written-ne0
+returns-then-written-ne0 c = refused_ends _ _ _ _ c.write-written.ensures c.if-written-ne0.true c.refused.ensures
+
+pub slice_bounds-read-end : goal.slice_bounds-read-end
+slice_bounds-read-end c =
+    let a = c.args in
+    fits a.kind (given a.luma_rects.now a.luma_pairs.now a.luma_data.now) (given a.chroma_rects.now a.chroma_pairs.now a.chroma_data.now)
+    a.out.now c.write-written.ensures c.if-written-ne0.false
+
+pub returns : goal.returns
+returns c = read_ends _ _ _ _ c.write-written.ensures c.if-written-ne0.false c.read.ensures.answer
