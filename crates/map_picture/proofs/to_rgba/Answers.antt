@@ -58,11 +58,11 @@ returns-then-made-ne0 c =
     let call = c.to_rgba-made.ensures in
     record {
       answer = c.none-then-made-ne0.ensures ∙ ⊎_elim
-          (λ some. pixels_passed is _ _ _ _ call.answer some.taken)
-          (λ none. let empty = sym (count_made _ _ _ call.answer none.0.left) ∙ eqb-true _ 0 none.2.taken in
+          (λ some. pixels_passed is _ _ _ _ call.answer some)
+          (λ none. let empty = sym (count_made _ _ _ call.answer none.0) ∙ none.1 in
           let unfiltered = empty_unfiltered a.size a.rect empty in
           λ i. map_pixels_of (((λ t. (call.answer t).number) ∙ is) i) (sym empty i) (unfiltered a.u.now i) (unfiltered a.v.now i) (stale_empty a.size a.rect a.map.now empty i))
-          c.then-made-ne0.branch;
+          c.then-made-ne0.either;
       buffers = call.buffers ∙ ap (λ (k : ℕ). lent_after k a.out.now (written (goal.at.returns-then-made-ne0 c).Start) ∷ []) is;
     }
 
@@ -70,7 +70,7 @@ returns-then-made-ne0 c =
 some : (e : Else-made-eq0) → let a = e.args in to_rgba_count_of a.size a.rect ≡ 0 → ⊥
 some e empty =
     let a = e.args in
-    eqb-false _ 0 e.if-made-eq0.false (count_made _ _ _ e.to_rgba-made.ensures.answer e.then-made-ne0.false ∙ empty)
+    e.if-made-eq0.false (count_made _ _ _ e.to_rgba-made.ensures.answer e.if-made-ne0.false ∙ empty)
 
 pub stale_in-requires : goal.stale_in-requires
 stale_in-requires c =
@@ -83,7 +83,7 @@ returns c =
     let is = same_number (goal.at.returns c).After-to_rgba-made in
     let call = c.to_rgba-made.ensures in
     record {
-      answer = pixels_counted is _ _ _ _ call.answer c.then-made-ne0.false
+      answer = pixels_counted is _ _ _ _ call.answer c.if-made-ne0.false
           (c.stale_in.ensures ∙ stale_is a.size a.rect c.clipped-n.ensures c.clipped-h.ensures a.map.now);
-      buffers = call.buffers ∙ ap (λ (c : ℕ). lent_after c a.out.now (written (goal.at.returns c).Start) ∷ []) is;
+      buffers = call.buffers ∙ ap (λ (k : ℕ). lent_after k a.out.now (written (goal.at.returns c).Start) ∷ []) is;
     }

@@ -59,4 +59,4 @@ pub shape_of-auxiliary_v : goal.shape_of-auxiliary_v
 shape_of-auxiliary_v c = c.both_views.auto.auxiliary_v
 
 pub returns : goal.returns
-returns c = done _ _ (from (goal.at.returns c).After-split_number-number) (main (goal.at.returns c).After-split_number-number) (auxiliary (goal.at.returns c).After-split_number-number) c.split_number-number.ensures c.if-number-ne0.left c.split_answer-2.ensures c.both_views.ensures.written c.both_views.ensures.written_2
+returns c = done _ _ (from (goal.at.returns c).After-split_number-number) (main (goal.at.returns c).After-split_number-number) (auxiliary (goal.at.returns c).After-split_number-number) c.split_number-number.ensures c.if-number-ne0.false c.split_answer-2.ensures c.both_views.ensures.written c.both_views.ensures.written_2

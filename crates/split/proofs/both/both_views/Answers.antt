@@ -22,23 +22,21 @@ module _ {stride stride' wide wide' rows rows' : ℕ} (e : stride ≡ stride') (
       → (MacroblocksFit u stride rows × (MacroblocksFit v stride rows × (WideEnough stride wide × ((wide ≡ view_wide_of t stride) × Room ay au av wide rows))))
   auxiliary_asked h is = rw (e, f, g, h) is
 
-  main_is : {p old new : Planes} → Written wide rows (main_sample stride p) old new → Written wide' rows' (main_sample stride' p) old new
-  main_is is = rw (e, f, g) at is
+  main_is : (p : Planes) {old new : Planes} → Written wide rows (main_sample stride p) old new → Written wide' rows' (main_sample stride' p) old new
+  main_is p is = rw (e, f, g) at is
 
   auxiliary_is : {t t' : Layout} (u v : List ℕ) {old new : Planes} → t ≡ t' → Written wide rows (auxiliary_sample t stride u v) old new → Written wide' rows' (auxiliary_sample t' stride' u v) old new
   auxiliary_is u v h is = rw (e, f, g, h) at is
 
 pub main_view-requires : goal.main_view-requires
 main_view-requires c =
-    let f = (c.requires.macroblocks_fit, (c.requires.macroblocks_fit_2, (c.requires.macroblocks_fit_3, (c.requires.room, c.requires.room_2)))) in
     let whole = main_asked c.stride-stride.ensures.0 c.view_width-wide.ensures c.rows-rows.ensures.0
-    (f.0, (f.1.0, (f.1.1.0, ((wide_enough c.args.way c.args.size).enough, f.1.1.1.0)))) in record { macroblocks_fit = whole.0; macroblocks_fit_2 = whole.1.0; macroblocks_fit_3 = whole.1.1.0; stride_le_wide = whole.1.1.1.0; room = whole.1.1.1.1 }
+    (c.requires.macroblocks_fit, (c.requires.macroblocks_fit_2, (c.requires.macroblocks_fit_3, ((wide_enough c.args.way c.args.size).enough, c.requires.room)))) in record { macroblocks_fit = whole.0; macroblocks_fit_2 = whole.1.0; macroblocks_fit_3 = whole.1.1.0; stride_le_wide = whole.1.1.1.0; room = whole.1.1.1.1 }
 
 pub auxiliary_view-requires : goal.auxiliary_view-requires
 auxiliary_view-requires c =
-    let f = (c.requires.macroblocks_fit, (c.requires.macroblocks_fit_2, (c.requires.macroblocks_fit_3, (c.requires.room, c.requires.room_2)))) in
     let whole = auxiliary_asked c.stride-stride.ensures.0 c.view_width-wide.ensures c.rows-rows.ensures.0 c.split_layout-layout.ensures
-    (f.1.0, (f.1.1.0, (wide_enough c.args.way c.args.size, (refl, f.1.1.1.1)))) in record { macroblocks_fit = whole.0; macroblocks_fit_2 = whole.1.0; wide_enough = whole.1.1.0; wide_value = whole.1.1.1.0; room = whole.1.1.1.1 }
+    (c.requires.macroblocks_fit_2, (c.requires.macroblocks_fit_3, (wide_enough c.args.way c.args.size, (refl, c.requires.room_2)))) in record { macroblocks_fit = whole.0; macroblocks_fit_2 = whole.1.0; wide_enough = whole.1.1.0; wide_value = whole.1.1.1.0; room = whole.1.1.1.1 }
 
 pub shape_of-main_y : goal.shape_of-main_y
 shape_of-main_y c = c.main_view.auto.main_y
@@ -64,6 +62,6 @@ returns c =
     let f = c.view_width-wide.ensures in
     let g = c.rows-rows.ensures.0 in
     record {
-      written = main_is e f g c.main_view.ensures;
+      written = main_is e f g _ c.main_view.ensures;
       written_2 = auxiliary_is e f g c.args.u.now c.args.v.now c.split_layout-layout.ensures c.auxiliary_view.ensures;
     }
