@@ -4,6 +4,8 @@
 // views have the sizes of the split's and every visible sample is the split's (proofs/Yes.antt), else a place that is wrong while each one
 // before it is right (proofs/First.antt), or none where the sizes are not the split's. Nothing is written. The number is found in `number`,
 // a row's first wrong sample in `rows`, a plane's, a view's and the pair's in `planes`.
+#![tactic(auto)]
+
 pub mod number; // 1, 5, 3 or 4
 pub mod planes; // the verdict on a plane, a view and both
 pub mod rows; // a row of a view beside what the split has there
