@@ -16,7 +16,7 @@ use Rattle.layout.proofs.Pairs.{v1_even_facts}
 use Rattle.apply_auxiliary_rows.proofs.Columns.{columns_none}
 use Rattle.apply_auxiliary_rows.proofs.Area.{area_room, copy_fits, odds_fit}
 use Rattle.apply_auxiliary_rows.proofs.Written.{v1_even_written}
-use Rattle.apply_auxiliary_rows.proofs.v1.v1_even_row.Goals.{After-least-stop, After-stride, In-At, Start}
+use Rattle.apply_auxiliary_rows.proofs.v1.v1_even_row.Goals.{After-least-stop, After-stride, In-At}
 use Rattle.apply_auxiliary_rows.proofs.v1.v1_even_row.Goals as goal
 
 -- the view has the row, it starts at `at`, and it lies in both planes
@@ -25,21 +25,10 @@ there f =
     let t = row_start_at _ _ _ f.row_start.ensures f.in-At.is in
     (omega (arith, t.0, f.half_up-high.ensures), t.1)
 
-view-row : (f : In-At)
-    → let a = f.args in
-    (f.in-At.at + a.w.chroma_stride ≤ length a.vu.now) × (f.in-At.at + a.w.chroma_stride ≤ length a.vv.now)
-view-row f =
-    let p = chroma_of f.args.w in
-    (omega (arith, (there f).1, (row_fits p _ (f.args.row / 2) f.requires.plane_fits (there f).0).0), omega (arith, (there f).1, (row_fits p _ (f.args.row / 2) f.requires.plane_fits_2 (there f).0).0))
-
 -- one column bounds the row
 stops : (l : After-least-stop) → let a = l.args in l.least-stop.result ≡ min a.right (2 * half_up a.w.width)
 stops l =
     l.least-stop.ensures ∙ ap (λ (m : ℕ). min l.args.right (2 * m)) l.half_up-wide.ensures
-
--- the planes' lengths fit in the machine word
-fit : (s : Start) → let fits : ℕ → Type 0 = λ n. n < 18446744073709551616 in fits (length s.args.u.now) × fits (length s.args.vu.now)
-fit s = (search rules, search rules)
 
 -- what is written lies in the picture's planes, and what is read in the view's rows
 in-planes : (n : After-stride)
@@ -48,21 +37,28 @@ in-planes : (n : After-stride)
     (a.left ≤ n.least-stop.result) × (end ≤ length a.u.now) × (end ≤ length a.v.now) × (end < 18446744073709551616)
 in-planes n =
     let a = n.args in
-    let below : n.least-stop.result ≤ a.right = omega (arith, (let inl : (let a = n.args in n.least-stop.result ≡ min a.right (2 * half_up a.w.width)) = n.least-stop.ensures ∙ ap (λ (m : ℕ). min n.args.right (2 * m)) n.half_up-wide.ensures in inl)) in
+    let stop : n.least-stop.result ≡ min a.right (2 * half_up a.w.width) = n.least-stop.ensures ∙ ap (λ (m : ℕ). min a.right (2 * m)) n.half_up-wide.ensures in
+    let below : n.least-stop.result ≤ a.right = omega arith in
     let in-u = area_room a.size a.u.now a.row _ _ n.requires.area_fits _ n.stride.ensures.0 _ below in
     let in-v = area_room a.size a.v.now a.row _ _ n.requires.area_fits_2 _ n.stride.ensures.0 _ below in
-    (omega (arith, n.if-stop-left.false), in-u, in-v, omega (arith, (fit n.before.before.before.before.before.before.before.before.before.before.before.before.before).0))
+    let fit : length a.u.now < 18446744073709551616 = search rules in
+    (omega (arith, n.if-stop-left.false), in-u, in-v, omega arith)
 
 in_view : (l : After-least-stop)
     → let a = l.args in
     let end : ℕ = l.in-At.at + l.least-stop.result / 2 in
     (end ≤ length a.vu.now) × (end ≤ length a.vv.now) × (end < 18446744073709551616)
 in_view l =
-    let row = (let p = chroma_of l.args.w in
-    (omega (arith, (there l).1, (row_fits p _ (l.args.row / 2) l.requires.plane_fits (there l).0).0), omega (arith, (there l).1, (row_fits p _ (l.args.row / 2) l.requires.plane_fits_2 (there l).0).0))) in
+    let a = l.args in
+    let t = row_start_at _ _ _ l.row_start.ensures l.in-At.is in
+    let seen : a.row / 2 < half_up a.w.height = omega (arith, t.0, l.half_up-high.ensures) in
+    let start : l.in-At.at ≡ a.row / 2 * a.w.chroma_stride = t.1 in
+    let of-u = (row_fits (chroma_of a.w) _ (a.row / 2) l.requires.plane_fits seen).0 in
+    let of-v = (row_fits (chroma_of a.w) _ (a.row / 2) l.requires.plane_fits_2 seen).0 in
     let stop = stops l in
     let wide = l.requires.plane_fits.wide in
-    (omega arith, omega arith, omega (arith, (fit l.before.before.before.before.before.before.before.before.before.before.before).1))
+    let fit : length a.vu.now < 18446744073709551616 = search rules in
+    (omega arith, omega arith, omega arith)
 
 pub row_start-requires : goal.row_start-requires
 row_start-requires c = rw c.half_up-high.ensures c.requires.plane_fits.long
@@ -165,9 +161,9 @@ put_odds-requires c =
 pub returns : goal.returns
 returns c =
     let a = c.args in
-    let p = (c.requires.area_fits, (c.requires.area_fits_2, (c.requires.plane_fits, (c.requires.plane_fits_2, c.requires.row_value)))) in record {
-      u = λ vy. v1_even_written CU a.size a.w vy a.vu.now a.vv.now a.u.now c.put_odds.new.u a.row a.left a.right c.least-stop.result c.stride.result c.in-At.at p.0 c.stride.ensures.0 (in-planes (goal.at.returns c).After-stride).0
-          a.vu.now (λ r k. refl) p.1.1.1.1 (there (goal.at.returns c).In-At).0 (there (goal.at.returns c).In-At).1 (stops (goal.at.returns c).After-least-stop) c.put_odds.ensures.u;
-      v = λ vy. v1_even_written CV a.size a.w vy a.vu.now a.vv.now a.v.now c.put_odds.new.v a.row a.left a.right c.least-stop.result c.stride.result c.in-At.at p.1.0 c.stride.ensures.0 (in-planes (goal.at.returns c).After-stride).0
-          a.vv.now (λ r k. refl) p.1.1.1.1 (there (goal.at.returns c).In-At).0 (there (goal.at.returns c).In-At).1 (stops (goal.at.returns c).After-least-stop) c.put_odds.ensures.v;
+    let there = there (goal.at.returns c).In-At in record {
+      u = λ vy. v1_even_written CU a.size a.w vy a.vu.now a.vv.now a.u.now c.put_odds.new.u a.row a.left a.right c.least-stop.result c.stride.result c.in-At.at c.requires.area_fits c.stride.ensures.0 (in-planes (goal.at.returns c).After-stride).0
+          a.vu.now (λ r k. refl) c.requires.row_value there.0 there.1 (stops (goal.at.returns c).After-least-stop) c.put_odds.ensures.u;
+      v = λ vy. v1_even_written CV a.size a.w vy a.vu.now a.vv.now a.v.now c.put_odds.new.v a.row a.left a.right c.least-stop.result c.stride.result c.in-At.at c.requires.area_fits_2 c.stride.ensures.0 (in-planes (goal.at.returns c).After-stride).0
+          a.vv.now (λ r k. refl) c.requires.row_value there.0 there.1 (stops (goal.at.returns c).After-least-stop) c.put_odds.ensures.v;
     }

@@ -16,7 +16,7 @@ use Rattle.layout.proofs.Pairs.{v1_odd_facts}
 use Rattle.apply_auxiliary_rows.proofs.Columns.{columns_none}
 use Rattle.apply_auxiliary_rows.proofs.Area.{area_room, copy_fits}
 use Rattle.apply_auxiliary_rows.proofs.Written.{v1_odd_written}
-use Rattle.apply_auxiliary_rows.proofs.v1.v1_odd_row.Goals.{After-least-stop, After-stride, In-At, In-At-row_start, Start}
+use Rattle.apply_auxiliary_rows.proofs.v1.v1_odd_row.Goals.{After-least-stop, After-stride, In-At, In-At-row_start}
 use Rattle.apply_auxiliary_rows.proofs.v1.v1_odd_row.Goals as goal
 
 -- both rows of the pair exist, with their starts
@@ -32,10 +32,6 @@ first-there f =
     let upper : f.upper-n.result ≡ upper_of f.args.row + 0 = omega (arith, f.upper-n.ensures) in
     (row_start_at _ _ _ f.row_start-2.ensures f.in-At-row_start.is).1 ∙ ap (λ (m : ℕ). m * f.args.w.luma_stride) upper
 
--- the planes' lengths fit in the machine word
-fit : (s : Start) → let fits : ℕ → Type 0 = λ n. n < 18446744073709551616 in fits (length s.args.u.now) × fits (length s.args.vy.now)
-fit s = (search rules, search rules)
-
 -- what is written lies in the picture's planes, and what is read in the view's rows
 in-planes : (n : After-stride)
     → let a = n.args in
@@ -46,28 +42,26 @@ in-planes n =
     let below : n.least-stop.result ≤ a.right = omega (arith, n.least-stop.ensures) in
     let in-u = area_room a.size a.u.now a.row _ _ n.requires.area_fits _ n.stride.ensures.0 _ below in
     let in-v = area_room a.size a.v.now a.row _ _ n.requires.area_fits_2 _ n.stride.ensures.0 _ below in
-    (omega (arith, n.if-stop-left.false), in-u, in-v, omega (arith, (fit n.before.before.before.before.before.before.before.before.before.before.before.before.before.before.before.before.before.before).0))
+    let fit : length a.u.now < 18446744073709551616 = search rules in
+    (omega (arith, n.if-stop-left.false), in-u, in-v, omega arith)
 
 in_view : (l : After-least-stop)
     → let m : ℕ = length l.args.vy.now in
     (l.in-At-row_start.first + l.least-stop.result ≤ m) × (l.in-At.second + l.least-stop.result ≤ m) × (m < 18446744073709551616)
 in_view l =
     let a = l.args in
-    let pair = (let upper = l.upper-n.ensures in
-    let t = row_start_at _ _ _ l.row_start.ensures l.in-At.is in
-    (omega (arith, t.0), t.1 ∙ ap (λ (m : ℕ). (m + 8) * l.args.w.luma_stride) upper)) in
-    let first = (row_fits (luma_of a.w) _ (upper_of a.row + shift CU 8) l.requires.plane_fits (omega (arith, pair.0))).0 in
-    let second = (row_fits (luma_of a.w) _ (upper_of a.row + shift CV 8) l.requires.plane_fits pair.0).0 in
+    let upper = l.upper-n.ensures in
+    let one = row_start_at _ _ _ l.row_start-2.ensures l.in-At-row_start.is in
+    let two = row_start_at _ _ _ l.row_start.ensures l.in-At.is in
+    let low : upper_of a.row + 0 < a.w.height = omega (arith, one.0) in
+    let high : upper_of a.row + 8 < a.w.height = omega (arith, two.0) in
+    let to-one : l.in-At-row_start.first ≡ (upper_of a.row + 0) * a.w.luma_stride = one.1 ∙ ap (λ (m : ℕ). m * a.w.luma_stride) (omega arith) in
+    let to-two : l.in-At.second ≡ (upper_of a.row + 8) * a.w.luma_stride = two.1 ∙ ap (λ (m : ℕ). (m + 8) * a.w.luma_stride) upper in
+    let first = (row_fits (luma_of a.w) _ (upper_of a.row + 0) l.requires.plane_fits low).0 in
+    let second = (row_fits (luma_of a.w) _ (upper_of a.row + 8) l.requires.plane_fits high).0 in
     let stop = l.least-stop.ensures in
-    let wide = l.requires.plane_fits.wide in (
-      omega (
-        arith,
-        (let inl : (let a = l.args in l.in-At-row_start.first ≡ (upper_of a.row + shift CU 8) * a.w.luma_stride) = let upper : l.upper-n.result ≡ upper_of l.args.row + 0 = omega (arith, l.upper-n.ensures) in
-            (row_start_at _ _ _ l.row_start-2.ensures l.in-At-row_start.is).1 ∙ ap (λ (m : ℕ). m * l.args.w.luma_stride) upper in inl),
-      ),
-      omega (arith, pair.1),
-      (fit l.before.before.before.before.before.before.before.before.before.before.before.before.before.before.before.before).1,
-    )
+    let wide = l.requires.plane_fits.wide in
+    (omega arith, omega arith, search rules)
 
 pub returns-in_default : goal.returns-in_default
 returns-in_default c =
@@ -174,10 +168,9 @@ copy_both-requires c =
 pub returns : goal.returns
 returns c =
     let a = c.args in
-    let p = (c.requires.area_fits, (c.requires.area_fits_2, (c.requires.plane_fits, c.requires.row_value))) in
     let pair = pair-there (goal.at.returns c).In-At in record {
-      u = λ vu vv. v1_odd_written CU a.size a.w a.vy.now vu vv a.u.now c.copy_both.new.u a.row a.left a.right c.least-stop.result c.stride.result _ p.0 c.stride.ensures.0 (in-planes (goal.at.returns c).After-stride).0
-          p.1.1.1 pair.0 (first-there (goal.at.returns c).In-At-row_start) c.least-stop.ensures c.copy_both.auto.u c.copy_both.ensures.u;
-      v = λ vu vv. v1_odd_written CV a.size a.w a.vy.now vu vv a.v.now c.copy_both.new.v a.row a.left a.right c.least-stop.result c.stride.result _ p.1.0 c.stride.ensures.0 (in-planes (goal.at.returns c).After-stride).0
-          p.1.1.1 pair.0 pair.1 c.least-stop.ensures c.copy_both.auto.v c.copy_both.ensures.v;
+      u = λ vu vv. v1_odd_written CU a.size a.w a.vy.now vu vv a.u.now c.copy_both.new.u a.row a.left a.right c.least-stop.result c.stride.result _ c.requires.area_fits c.stride.ensures.0 (in-planes (goal.at.returns c).After-stride).0
+          c.requires.row_value pair.0 (first-there (goal.at.returns c).In-At-row_start) c.least-stop.ensures c.copy_both.auto.u c.copy_both.ensures.u;
+      v = λ vu vv. v1_odd_written CV a.size a.w a.vy.now vu vv a.v.now c.copy_both.new.v a.row a.left a.right c.least-stop.result c.stride.result _ c.requires.area_fits_2 c.stride.ensures.0 (in-planes (goal.at.returns c).After-stride).0
+          c.requires.row_value pair.0 pair.1 c.least-stop.ensures c.copy_both.auto.v c.copy_both.ensures.v;
     }

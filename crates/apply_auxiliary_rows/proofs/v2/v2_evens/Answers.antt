@@ -19,7 +19,7 @@ use Rattle.apply_auxiliary_rows.proofs.Area.{area_room, evens_fit}
 use Rattle.apply_auxiliary_rows.proofs.Feeds.{v2_evens_facts}
 use Rattle.apply_auxiliary_rows.proofs.Limits.{evens_seen}
 use Rattle.apply_auxiliary_rows.proofs.Written.{v2_evens_written}
-use Rattle.apply_auxiliary_rows.proofs.v2.v2_evens.Goals.{After-least-stop, After-stride, Else-stop-left, In-At, Start}
+use Rattle.apply_auxiliary_rows.proofs.v2.v2_evens.Goals.{After-least-stop, After-stride, Else-stop-left, In-At}
 use Rattle.apply_auxiliary_rows.proofs.v2.v2_evens.Goals as goal
 
 -- the row is odd; the view has its chroma row, which starts at `at`
@@ -31,45 +31,31 @@ there f =
     let t = row_start_at _ _ _ f.row_start.ensures f.in-At.is in
     (omega (arith, t.0, f.half_up-high.ensures), t.1)
 
--- it lies in both planes
-view-row : (f : In-At)
-    → let a = f.args in
-    (f.in-At.at + a.w.chroma_stride ≤ length a.vu.now) × (f.in-At.at + a.w.chroma_stride ≤ length a.vv.now)
-view-row f =
-    let p = chroma_of f.args.w in
-    (omega (arith, (there f).1, (row_fits p _ (f.args.row / 2) f.requires.plane_fits (there f).0).0), omega (arith, (there f).1, (row_fits p _ (f.args.row / 2) f.requires.plane_fits_2 (there f).0).0))
-
 -- one column bounds the even columns
 stops : (l : After-least-stop) → let a = l.args in l.least-stop.result ≡ min a.right (v2_evens_below_of a.wide a.w.width)
 stops l = let a = l.args in l.least-stop.ensures ∙ ap (λ (m : ℕ). min a.right m) l.v2_evens_below.ensures
 
--- below it both halves of the rows are there
-seen : (o : Else-stop-left) (m : ℕ)
-    → o.in-At.at + o.args.w.chroma_stride ≤ m → o.in-At.at + o.args.wide / 4 + (o.least-stop.result / 2 + 1) / 2 ≤ m
-seen o m row =
-    let a = o.args in
-    evens_seen o.in-At.at a.w.chroma_stride m (half_up a.w.width) (a.wide / 4) o.least-stop.result row o.requires.plane_fits.wide
-    (omega (arith, o.if-stop-left.false))
-    (omega (arith, (let inl : (let a = o.args in o.least-stop.result ≡ min a.right (v2_evens_below_of a.wide a.w.width)) = let a = o.args in o.least-stop.ensures ∙ ap (λ (m : ℕ). min a.right m) o.v2_evens_below.ensures in inl)))
-
--- the planes' lengths fit in the machine word
-fit : (s : Start) → let fits : ℕ → Type 0 = λ n. n < 18446744073709551616 in fits (length s.args.u.now) × fits (length s.args.vu.now)
-fit s = (search rules, search rules)
-
--- both planes have what is read, in whatever order they are handed on: which is which is said by what is written alone
+-- below it both halves of the rows are there: both planes have what is read, in whatever order they are handed on, since which is which
+-- is said by what is written alone
 in_view : (o : Else-stop-left)
     → let a = o.args in
     let end : ℕ = o.in-At.at + a.wide / 4 + (o.least-stop.result / 2 + 1) / 2 in
     (end ≤ length a.vu.now) × (end ≤ length a.vv.now) × (end < 18446744073709551616) × (a.left ≤ o.least-stop.result)
 in_view o =
-    let in-u = seen o _ ((let p = chroma_of o.args.w in
-    (omega (arith, (there o).1, (row_fits p _ (o.args.row / 2) o.requires.plane_fits (there o).0).0), omega (arith, (there o).1, (row_fits p _ (o.args.row / 2) o.requires.plane_fits_2 (there o).0).0)))).0 in (
-      in-u,
-      seen o _ ((let p = chroma_of o.args.w in
-          (omega (arith, (there o).1, (row_fits p _ (o.args.row / 2) o.requires.plane_fits (there o).0).0), omega (arith, (there o).1, (row_fits p _ (o.args.row / 2) o.requires.plane_fits_2 (there o).0).0)))).1,
-      omega (arith, (fit o.before.before.before.before.before.before.before.before.before.before.before.before.before).1),
-      omega (arith, o.if-stop-left.false),
-    )
+    let a = o.args in
+    let stop : o.least-stop.result ≡ min a.right (v2_evens_below_of a.wide a.w.width) = o.least-stop.ensures ∙ ap (λ (m : ℕ). min a.right m) o.v2_evens_below.ensures in
+    let t = row_start_at _ _ _ o.row_start.ensures o.in-At.is in
+    let row : a.row / 2 < half_up a.w.height = omega (arith, t.0, o.half_up-high.ensures) in
+    let start : o.in-At.at ≡ a.row / 2 * a.w.chroma_stride = t.1 in
+    let of-u = row_fits (chroma_of a.w) _ (a.row / 2) o.requires.plane_fits row in
+    let of-v = row_fits (chroma_of a.w) _ (a.row / 2) o.requires.plane_fits_2 row in
+    let some : 0 < o.least-stop.result = omega (arith, o.if-stop-left.false) in
+    let seen : (m : ℕ) → o.in-At.at + a.w.chroma_stride ≤ m → o.in-At.at + a.wide / 4 + (o.least-stop.result / 2 + 1) / 2 ≤ m =
+    λ m long. evens_seen o.in-At.at a.w.chroma_stride m (half_up a.w.width) (a.wide / 4) o.least-stop.result long o.requires.plane_fits.wide some (omega arith) in
+    let in-u = seen (length a.vu.now) (omega (arith, start, of-u.0)) in
+    let in-v = seen (length a.vv.now) (omega (arith, start, of-v.0)) in
+    let fit : length a.vu.now < 18446744073709551616 = search rules in
+    (in-u, in-v, omega arith, omega (arith, o.if-stop-left.false))
 
 -- what is written lies in the picture's planes
 in-planes : (n : After-stride)
@@ -78,10 +64,12 @@ in-planes : (n : After-stride)
     (a.left ≤ n.least-stop.result) × (end ≤ length a.u.now) × (end ≤ length a.v.now) × (end < 18446744073709551616)
 in-planes n =
     let a = n.args in
-    let below : n.least-stop.result ≤ a.right = omega (arith, (let inl : (let a = n.args in n.least-stop.result ≡ min a.right (v2_evens_below_of a.wide a.w.width)) = let a = n.args in n.least-stop.ensures ∙ ap (λ (m : ℕ). min a.right m) n.v2_evens_below.ensures in inl)) in
+    let stop : n.least-stop.result ≡ min a.right (v2_evens_below_of a.wide a.w.width) = n.least-stop.ensures ∙ ap (λ (m : ℕ). min a.right m) n.v2_evens_below.ensures in
+    let below : n.least-stop.result ≤ a.right = omega arith in
     let in-u = area_room a.size a.u.now a.row _ _ n.requires.area_fits _ n.stride.ensures.0 _ below in
     let in-v = area_room a.size a.v.now a.row _ _ n.requires.area_fits_2 _ n.stride.ensures.0 _ below in
-    (omega (arith, n.if-stop-left.false), in-u, in-v, omega (arith, (fit n.before.before.before.before.before.before.before.before.before.before.before.before.before.before).0))
+    let fit : length a.u.now < 18446744073709551616 = search rules in
+    (omega (arith, n.if-stop-left.false), in-u, in-v, omega arith)
 
 -- where each half of the rows starts
 own-u : (f : In-At) → let a = f.args in f.in-At.at ≡ a.row / 2 * a.w.chroma_stride + shift CU (a.wide / 4)
@@ -238,9 +226,11 @@ put_evens-requires-2 c =
 pub returns : goal.returns
 returns c =
     let a = c.args in
-    let p = (c.requires.area_fits, (c.requires.area_fits_2, (c.requires.plane_fits, c.requires.plane_fits_2))) in record {
-      u = λ vy. v2_evens_written CU a.size a.w vy a.vu.now a.vv.now a.u.now c.put_evens.new.dst a.row a.left a.right c.least-stop.result c.stride.result _ p.0 c.stride.ensures.0 (in-planes (goal.at.returns c).After-stride).0
-          a.wide (by-odd (goal.at.returns c).In-At) (there (goal.at.returns c).In-At).0 (own-u (goal.at.returns c).In-At) (stops (goal.at.returns c).After-least-stop) c.put_evens.ensures;
-      v = λ vy. v2_evens_written CV a.size a.w vy a.vu.now a.vv.now a.v.now c.put_evens-2.new.dst a.row a.left a.right c.least-stop.result c.stride.result _ p.1.0 c.stride.ensures.0 (in-planes (goal.at.returns c).After-stride).0
-          a.wide (by-odd (goal.at.returns c).In-At) (there (goal.at.returns c).In-At).0 (own-v (goal.at.returns c).In-At) (stops (goal.at.returns c).After-least-stop) c.put_evens-2.ensures;
+    let there = there (goal.at.returns c).In-At in
+    let stops = stops (goal.at.returns c).After-least-stop in
+    let low = (in-planes (goal.at.returns c).After-stride).0 in record {
+      u = λ vy. v2_evens_written CU a.size a.w vy a.vu.now a.vv.now a.u.now c.put_evens.new.dst a.row a.left a.right c.least-stop.result c.stride.result _ c.requires.area_fits c.stride.ensures.0 low
+          a.wide (by-odd (goal.at.returns c).In-At) there.0 (own-u (goal.at.returns c).In-At) stops c.put_evens.ensures;
+      v = λ vy. v2_evens_written CV a.size a.w vy a.vu.now a.vv.now a.v.now c.put_evens-2.new.dst a.row a.left a.right c.least-stop.result c.stride.result _ c.requires.area_fits_2 c.stride.ensures.0 low
+          a.wide (by-odd (goal.at.returns c).In-At) there.0 (own-v (goal.at.returns c).In-At) stops c.put_evens-2.ensures;
     }

@@ -18,23 +18,16 @@ use Rattle.apply_auxiliary_rows.proofs.Area.{area_room, odds_fit}
 use Rattle.apply_auxiliary_rows.proofs.Feeds.{v2_odds_facts}
 use Rattle.apply_auxiliary_rows.proofs.Limits.{odds_seen}
 use Rattle.apply_auxiliary_rows.proofs.Written.{v2_odds_written}
-use Rattle.apply_auxiliary_rows.proofs.v2.v2_odds.Goals.{After-least-stop, After-stride, Else-stop-left, In-At, Start}
+use Rattle.apply_auxiliary_rows.proofs.v2.v2_odds.Goals.{After-least-stop, After-stride, Else-stop-left, In-At}
 use Rattle.apply_auxiliary_rows.proofs.v2.v2_odds.Goals as goal
 
--- the view has the row, it starts at `at`, and it lies in the view's plane
+-- the view has the row, and it starts at `at`
 there : (f : In-At) → let a = f.args in (a.row < a.w.height) × (f.in-At.at ≡ a.row * a.w.luma_stride)
 there f = row_start_at _ _ _ f.row_start.ensures f.in-At.is
-
-view-row : (f : In-At) → let a = f.args in f.in-At.at + a.w.luma_stride ≤ length a.vy.now
-view-row f = omega (arith, (there f).1, (row_fits (luma_of f.args.w) _ f.args.row f.requires.plane_fits (there f).0).0)
 
 -- one column bounds the odd columns
 stops : (l : After-least-stop) → let a = l.args in l.least-stop.result ≡ min a.right (v2_odds_below_of a.wide a.w.width)
 stops l = let a = l.args in l.least-stop.ensures ∙ ap (λ (m : ℕ). min a.right m) l.v2_odds_below.ensures
-
--- the planes' lengths fit in the machine word
-fit : (s : Start) → let fits : ℕ → Type 0 = λ n. n < 18446744073709551616 in fits (length s.args.u.now) × fits (length s.args.vy.now)
-fit s = (search rules, search rules)
 
 -- what is read lies in the view's row, V's half as well as U's
 in_view : (o : Else-stop-left)
@@ -42,9 +35,12 @@ in_view : (o : Else-stop-left)
     (o.in-At.at + o.least-stop.result / 2 ≤ m) × (o.in-At.at + o.args.wide / 2 + o.least-stop.result / 2 ≤ m) × (m < 18446744073709551616)
 in_view o =
     let a = o.args in
-    let stop = (let inl : (let a = o.args in o.least-stop.result ≡ min a.right (v2_odds_below_of a.wide a.w.width)) = let a = o.args in o.least-stop.ensures ∙ ap (λ (m : ℕ). min a.right m) o.v2_odds_below.ensures in inl) in
-    let half = odds_seen o.in-At.at a.w.luma_stride _ a.w.width (a.wide / 2) o.least-stop.result ((let inl : (let a = o.args in o.in-At.at + a.w.luma_stride ≤ length a.vy.now) = omega (arith, (there o).1, (row_fits (luma_of o.args.w) _ o.args.row o.requires.plane_fits (there o).0).0) in inl)) o.requires.plane_fits.wide (omega (arith, o.if-stop-left.false)) (omega arith) in
-    (omega arith, half, (fit o.before.before.before.before.before.before.before.before.before.before.before).1)
+    let stop : o.least-stop.result ≡ min a.right (v2_odds_below_of a.wide a.w.width) = o.least-stop.ensures ∙ ap (λ (m : ℕ). min a.right m) o.v2_odds_below.ensures in
+    let t = row_start_at _ _ _ o.row_start.ensures o.in-At.is in
+    let inside = row_fits (luma_of a.w) _ a.row o.requires.plane_fits t.0 in
+    let row : o.in-At.at + a.w.luma_stride ≤ length a.vy.now = omega (arith, t.1, inside.0) in
+    let half = odds_seen o.in-At.at a.w.luma_stride _ a.w.width (a.wide / 2) o.least-stop.result row o.requires.plane_fits.wide (omega (arith, o.if-stop-left.false)) (omega arith) in
+    (omega arith, half, search rules)
 
 -- what is written lies in the picture's planes
 in-planes : (n : After-stride)
@@ -53,10 +49,12 @@ in-planes : (n : After-stride)
     (a.left ≤ n.least-stop.result) × (end ≤ length a.u.now) × (end ≤ length a.v.now) × (end < 18446744073709551616)
 in-planes n =
     let a = n.args in
-    let below : n.least-stop.result ≤ a.right = omega (arith, (let inl : (let a = n.args in n.least-stop.result ≡ min a.right (v2_odds_below_of a.wide a.w.width)) = let a = n.args in n.least-stop.ensures ∙ ap (λ (m : ℕ). min a.right m) n.v2_odds_below.ensures in inl)) in
+    let stop : n.least-stop.result ≡ min a.right (v2_odds_below_of a.wide a.w.width) = n.least-stop.ensures ∙ ap (λ (m : ℕ). min a.right m) n.v2_odds_below.ensures in
+    let below : n.least-stop.result ≤ a.right = omega arith in
     let in-u = area_room a.size a.u.now a.row _ _ n.requires.area_fits _ n.stride.ensures.0 _ below in
     let in-v = area_room a.size a.v.now a.row _ _ n.requires.area_fits_2 _ n.stride.ensures.0 _ below in
-    (omega (arith, n.if-stop-left.false), in-u, in-v, omega (arith, (fit n.before.before.before.before.before.before.before.before.before.before.before.before).0))
+    let fit : length a.u.now < 18446744073709551616 = search rules in
+    (omega (arith, n.if-stop-left.false), in-u, in-v, omega arith)
 
 -- where each half of the row starts
 own-u : (f : In-At) → let a = f.args in f.in-At.at ≡ a.row * a.w.luma_stride + shift CU (a.wide / 2)
@@ -167,9 +165,11 @@ put_odds-requires-2 c =
 pub returns : goal.returns
 returns c =
     let a = c.args in
-    let p = (c.requires.area_fits, (c.requires.area_fits_2, c.requires.plane_fits)) in record {
-      u = λ vu vv. v2_odds_written CU a.size a.w a.vy.now vu vv a.u.now c.put_odds.new.dst a.row a.left a.right c.least-stop.result c.stride.result _ p.0 c.stride.ensures.0 (in-planes (goal.at.returns c).After-stride).0
-          a.wide (there (goal.at.returns c).In-At).0 (own-u (goal.at.returns c).In-At) (stops (goal.at.returns c).After-least-stop) c.put_odds.ensures;
-      v = λ vu vv. v2_odds_written CV a.size a.w a.vy.now vu vv a.v.now c.put_odds-2.new.dst a.row a.left a.right c.least-stop.result c.stride.result _ p.1.0 c.stride.ensures.0 (in-planes (goal.at.returns c).After-stride).0
-          a.wide (there (goal.at.returns c).In-At).0 (own-v (goal.at.returns c).In-At) (stops (goal.at.returns c).After-least-stop) c.put_odds-2.ensures;
+    let there = there (goal.at.returns c).In-At in
+    let stops = stops (goal.at.returns c).After-least-stop in
+    let low = (in-planes (goal.at.returns c).After-stride).0 in record {
+      u = λ vu vv. v2_odds_written CU a.size a.w a.vy.now vu vv a.u.now c.put_odds.new.dst a.row a.left a.right c.least-stop.result c.stride.result _ c.requires.area_fits c.stride.ensures.0 low
+          a.wide there.0 (own-u (goal.at.returns c).In-At) stops c.put_odds.ensures;
+      v = λ vu vv. v2_odds_written CV a.size a.w a.vy.now vu vv a.v.now c.put_odds-2.new.dst a.row a.left a.right c.least-stop.result c.stride.result _ c.requires.area_fits_2 c.stride.ensures.0 low
+          a.wide there.0 (own-v (goal.at.returns c).In-At) stops c.put_odds-2.ensures;
     }

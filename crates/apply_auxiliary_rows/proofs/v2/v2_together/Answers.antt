@@ -37,56 +37,20 @@ chroma_there f =
     let t = row_start_at _ _ _ f.row_start-2.ensures f.in-At-row_start.is in
     (omega (arith, t.0, f.half_up-high.ensures), t.1)
 
-luma-row : (f : In-At) → let a = f.args in f.in-At.luma + a.w.luma_stride ≤ length a.vy.now
-luma-row f = omega (arith, (luma_there f).1, row_in f.args.w.luma_stride _ f.args.row (luma_there f).0, f.requires.view_fits.y_long)
-
-chroma-row : (f : In-At-row_start) (m : ℕ)
-    → let a = f.args in half_up a.w.height * a.w.chroma_stride ≤ m → f.in-At-row_start.chroma + a.w.chroma_stride ≤ m
-chroma-row f m long =
-    omega (arith, (chroma_there f).1, row_in f.args.w.chroma_stride _ (f.args.row / 2) (chroma_there f).0, long)
-
 -- what is read is there, V's halves as well as U's
-luma_seen : (f : In-At)
-    → let a = f.args in
-    f.in-At.luma + a.wide / 2 + f.least-stop.result / 2 ≤ length a.vy.now
-luma_seen f =
-    let w = f.args.w in
-    odds_seen f.in-At.luma w.luma_stride _ w.width (f.args.wide / 2) f.least-stop.result (luma-row f) f.requires.view_fits.luma_wide
-    (omega (arith, f.if-stop-left.left))
-    (omega (arith, (let inl : (let a = f.args in f.least-stop.result ≡ min a.right (v2_odds_below_of a.wide a.w.width)) = let a = f.args in f.least-stop.ensures ∙ ap (λ (m : ℕ). min a.right m) f.v2_odds_below.ensures in inl)))
-
-chroma_seen : (f : In-At-row_start) (m : ℕ)
-    → let a = f.args in
-    half_up a.w.height * a.w.chroma_stride ≤ m → f.in-At-row_start.chroma + a.wide / 4 + (f.least-stop.result / 2 + 1) / 2 ≤ m
-chroma_seen f m long =
-    let w = f.args.w in
-    evens_seen f.in-At-row_start.chroma w.chroma_stride m (half_up w.width) (f.args.wide / 4) f.least-stop.result (chroma-row f m long) f.requires.view_fits.chroma_wide
-    (omega (arith, f.if-stop-left.left))
-    (omega (arith, (let inl : (let a = f.args in f.least-stop.result ≡ min a.right (v2_odds_below_of a.wide a.w.width)) = let a = f.args in f.least-stop.ensures ∙ ap (λ (m : ℕ). min a.right m) f.v2_odds_below.ensures in inl), odds_below_evens f.args.wide w.width))
-
--- the planes' lengths fit in the machine word
-fit : (s : Start) → let fits : ℕ → Type 0 = λ n. n < 18446744073709551616 in fits (length s.args.u.now) × fits (length s.args.vy.now) × fits (length s.args.vu.now)
-fit s = (search rules, search rules, search rules)
-
 in-luma : (o : In-At-row_start)
     → let a = o.args in
     let end : ℕ = o.in-At.luma + a.wide / 2 + o.least-stop.result / 2 in
     (end ≤ length a.vy.now) × (end < 18446744073709551616) × (a.left ≤ o.least-stop.result)
-in-luma o = (
-  (let w = o.args.w in
-      odds_seen o.in-At.luma w.luma_stride _ w.width (o.args.wide / 2) o.least-stop.result (luma-row o) o.requires.view_fits.luma_wide
-      (omega (arith, o.if-stop-left.left))
-      (omega (arith, (let inl : (let a = o.args in o.least-stop.result ≡ min a.right (v2_odds_below_of a.wide a.w.width)) = let a = o.args in o.least-stop.ensures ∙ ap (λ (m : ℕ). min a.right m) o.v2_odds_below.ensures in inl)))),
-  omega (
-    arith,
-    (let w = o.args.w in
-        odds_seen o.in-At.luma w.luma_stride _ w.width (o.args.wide / 2) o.least-stop.result (luma-row o) o.requires.view_fits.luma_wide
-        (omega (arith, o.if-stop-left.left))
-        (omega (arith, (let inl : (let a = o.args in o.least-stop.result ≡ min a.right (v2_odds_below_of a.wide a.w.width)) = let a = o.args in o.least-stop.ensures ∙ ap (λ (m : ℕ). min a.right m) o.v2_odds_below.ensures in inl)))),
-    fit o.before.before.before.before.before.before.before.before.before.before.before.before.before.before.before.before.before.before.before,
-  ),
-  omega (arith, o.if-stop-left.left),
-)
+in-luma o =
+    let a = o.args in
+    let stop : o.least-stop.result ≡ min a.right (v2_odds_below_of a.wide a.w.width) = o.least-stop.ensures ∙ ap (λ (m : ℕ). min a.right m) o.v2_odds_below.ensures in
+    let t = row_start_at _ _ _ o.row_start.ensures o.in-At.is in
+    let row : o.in-At.luma + a.w.luma_stride ≤ length a.vy.now = omega (arith, t.1, row_in a.w.luma_stride _ a.row t.0, o.requires.view_fits.y_long) in
+    let some : 0 < o.least-stop.result = omega (arith, o.if-stop-left.false) in
+    let seen = odds_seen o.in-At.luma a.w.luma_stride _ a.w.width (a.wide / 2) o.least-stop.result row o.requires.view_fits.luma_wide some (omega arith) in
+    let fit : length a.vy.now < 18446744073709551616 = search rules in
+    (seen, omega (arith, seen), omega (arith, o.if-stop-left.false))
 
 -- both chroma planes have what is read, in whatever order they are handed on
 in-chroma : (o : In-At-row_start)
@@ -94,9 +58,19 @@ in-chroma : (o : In-At-row_start)
     let end : ℕ = o.in-At-row_start.chroma + a.wide / 4 + (o.least-stop.result / 2 + 1) / 2 in
     (end ≤ length a.vu.now) × (end ≤ length a.vv.now) × (end < 18446744073709551616) × (a.left ≤ o.least-stop.result)
 in-chroma o =
-    let p = o.requires.view_fits in
-    let in-u = chroma_seen o.before _ p.u_long in
-    (in-u, chroma_seen o.before _ p.v_long, omega (arith, in-u, fit o.before.before.before.before.before.before.before.before.before.before.before.before.before.before.before.before.before.before.before), omega (arith, o.if-stop-left.left))
+    let a = o.args in
+    let stop : o.least-stop.result ≡ min a.right (v2_odds_below_of a.wide a.w.width) = o.least-stop.ensures ∙ ap (λ (m : ℕ). min a.right m) o.v2_odds_below.ensures in
+    let t = row_start_at _ _ _ o.row_start-2.ensures o.in-At-row_start.is in
+    let there : a.row / 2 < half_up a.w.height = omega (arith, t.0, o.half_up-high.ensures) in
+    let start : o.in-At-row_start.chroma ≡ a.row / 2 * a.w.chroma_stride = t.1 in
+    let some : 0 < o.least-stop.result = omega (arith, o.if-stop-left.false) in
+    let seen : (m : ℕ) → half_up a.w.height * a.w.chroma_stride ≤ m → o.in-At-row_start.chroma + a.wide / 4 + (o.least-stop.result / 2 + 1) / 2 ≤ m =
+    λ m long. evens_seen o.in-At-row_start.chroma a.w.chroma_stride m (half_up a.w.width) (a.wide / 4) o.least-stop.result
+    (omega (arith, row_in a.w.chroma_stride _ (a.row / 2) there)) o.requires.view_fits.chroma_wide some (omega (arith, odds_below_evens a.wide a.w.width)) in
+    let in-u = seen (length a.vu.now) o.requires.view_fits.u_long in
+    let in-v = seen (length a.vv.now) o.requires.view_fits.v_long in
+    let fit : length a.vu.now < 18446744073709551616 = search rules in
+    (in-u, in-v, omega (arith, in-u), omega (arith, o.if-stop-left.false))
 
 -- what is written lies in the picture's planes
 in-planes : (n : After-stride)
@@ -105,10 +79,12 @@ in-planes : (n : After-stride)
     (a.left ≤ n.least-stop.result) × (end ≤ length a.u.now) × (end ≤ length a.v.now) × (end < 18446744073709551616)
 in-planes n =
     let a = n.args in
-    let below : n.least-stop.result ≤ a.right = omega (arith, (let inl : (let a = n.args in n.least-stop.result ≡ min a.right (v2_odds_below_of a.wide a.w.width)) = let a = n.args in n.least-stop.ensures ∙ ap (λ (m : ℕ). min a.right m) n.v2_odds_below.ensures in inl)) in
+    let stop : n.least-stop.result ≡ min a.right (v2_odds_below_of a.wide a.w.width) = n.least-stop.ensures ∙ ap (λ (m : ℕ). min a.right m) n.v2_odds_below.ensures in
+    let below : n.least-stop.result ≤ a.right = omega arith in
     let in-u = area_room a.size a.u.now a.row _ _ n.requires.area_fits _ n.stride.ensures.0 _ below in
     let in-v = area_room a.size a.v.now a.row _ _ n.requires.area_fits_2 _ n.stride.ensures.0 _ below in
-    (omega (arith, n.if-stop-left.left), in-u, in-v, omega (arith, (fit n.before.before.before.before.before.before.before.before.before.before.before.before.before.before.before.before.before.before.before.before).0))
+    let fit : length a.u.now < 18446744073709551616 = search rules in
+    (omega (arith, n.if-stop-left.false), in-u, in-v, omega arith)
 
 -- nothing is written yet
 none : (s : Start) → let a = s.args in (a.left ≤ a.left) × (a.left ≤ a.right) × (a.left % 2 ≡ 0)
@@ -318,10 +294,14 @@ put_full-requires-2 c =
 pub returns : goal.returns
 returns c =
     let a = c.args in
-    let p = (c.requires.area_fits, (c.requires.area_fits_2, c.requires.view_fits)) in record {
-      lower_bound = ((in-planes (goal.at.returns c).After-stride).0, omega (arith, stops (goal.at.returns c).Else-stop-left), omega (arith, p.0.even_right, stops (goal.at.returns c).Else-stop-left));
-      u = v2_all_written CU a.size a.w a.vy.now a.vu.now a.vv.now a.u.now c.put_full.new.dst a.row a.left a.right c.least-stop.result c.stride.result _ p.0 c.stride.ensures.0 (in-planes (goal.at.returns c).After-stride).0
-          a.wide c.in-At-row_start.chroma (by-odd (goal.at.returns c).Else-stop-left) (luma_there (goal.at.returns c).In-At).0 (chroma_there (goal.at.returns c).In-At-row_start).0 (own-luma-u (goal.at.returns c).In-At) (own-chroma-u (goal.at.returns c).In-At-row_start) (stops (goal.at.returns c).Else-stop-left) c.put_full.ensures;
-      v = v2_all_written CV a.size a.w a.vy.now a.vu.now a.vv.now a.v.now c.put_full-2.new.dst a.row a.left a.right c.least-stop.result c.stride.result _ p.1.0 c.stride.ensures.0 (in-planes (goal.at.returns c).After-stride).0
-          a.wide (c.in-At-row_start.chroma + a.wide / 4) (by-odd (goal.at.returns c).Else-stop-left) (luma_there (goal.at.returns c).In-At).0 (chroma_there (goal.at.returns c).In-At-row_start).0 (own-luma-v (goal.at.returns c).In-At) (own-chroma-v (goal.at.returns c).In-At-row_start) (stops (goal.at.returns c).Else-stop-left) c.put_full-2.ensures;
+    let odd-row = by-odd (goal.at.returns c).Else-stop-left in
+    let stops = stops (goal.at.returns c).Else-stop-left in
+    let luma = luma_there (goal.at.returns c).In-At in
+    let chroma = chroma_there (goal.at.returns c).In-At-row_start in
+    let low = (in-planes (goal.at.returns c).After-stride).0 in record {
+      lower_bound = (low, omega (arith, stops), omega (arith, c.requires.area_fits.even_right, stops));
+      u = v2_all_written CU a.size a.w a.vy.now a.vu.now a.vv.now a.u.now c.put_full.new.dst a.row a.left a.right c.least-stop.result c.stride.result _ c.requires.area_fits c.stride.ensures.0 low
+          a.wide c.in-At-row_start.chroma odd-row luma.0 chroma.0 (own-luma-u (goal.at.returns c).In-At) (own-chroma-u (goal.at.returns c).In-At-row_start) stops c.put_full.ensures;
+      v = v2_all_written CV a.size a.w a.vy.now a.vu.now a.vv.now a.v.now c.put_full-2.new.dst a.row a.left a.right c.least-stop.result c.stride.result _ c.requires.area_fits_2 c.stride.ensures.0 low
+          a.wide (c.in-At-row_start.chroma + a.wide / 4) odd-row luma.0 chroma.0 (own-luma-v (goal.at.returns c).In-At) (own-chroma-v (goal.at.returns c).In-At-row_start) stops c.put_full-2.ensures;
     }
