@@ -34,10 +34,10 @@ auxiliary s = planes s.args.auxiliary_y.now s.args.auxiliary_u.now s.args.auxili
 
 -- what both tests of the sizes said
 main-agrees : (e : Else-not-sizes_agree) → sizes_agree e.args.way e.args.size e.args.main ≡ true
-main-agrees e = sym e.sizes_agree.ensures ∙ not-false _ e.if-not-sizes_agree.false
+main-agrees e = sym e.sizes_agree.ensures ∙ e.if-not-sizes_agree.false
 
 auxiliary-agrees : (c : After-split_layout-layout) → sizes_agree c.args.way c.args.size c.args.auxiliary ≡ true
-auxiliary-agrees c = sym c.sizes_agree-2.ensures ∙ not-false _ c.if-not-sizes_agree-2.false
+auxiliary-agrees c = sym c.sizes_agree-2.ensures ∙ c.if-not-sizes_agree-2.false
 
 -- what is lent is long enough
 long : (s : Start) → PictureSplits s.args.way s.args.size (lengths_of (picture s)) × (Fits s.args.main (lengths_of (main s)) × Fits s.args.auxiliary (lengths_of (auxiliary s)))
@@ -47,7 +47,7 @@ long s = (check_0_exactly s.args.way s.args.size (lengths_of (picture s)) s.args
 asked : (c : After-split_layout-layout) (v : View) → v.width ≡ split_wide_of c.args.way c.args.size → v.height ≡ rows_of c.args.size
     → ViewWhole c.split_layout-layout.result v (length c.args.y.now) c.stride-stride.result × (ViewWhole c.split_layout-layout.result v (length c.args.u.now) c.stride-stride.result × ViewWhole c.split_layout-layout.result v (length c.args.v.now) c.stride-stride.result)
 asked c v e f =
-    let k = ((let inl : (PictureSplits c.args.way c.args.size (lengths_of (picture c)) × (Fits c.args.main (lengths_of (main c)) × Fits c.args.auxiliary (lengths_of (auxiliary c)))) = (check_0_exactly c.args.way c.args.size (lengths_of (picture c)) c.args.main (lengths_of (main c)) c.args.auxiliary (lengths_of (auxiliary c))).0 c.requires in inl)).0 in
+    let k = ((check_0_exactly c.args.way c.args.size (lengths_of (planes c.args.y.now c.args.u.now c.args.v.now)) c.args.main (lengths_of (planes c.args.main_y.now c.args.main_u.now c.args.main_v.now)) c.args.auxiliary (lengths_of (planes c.args.auxiliary_y.now c.args.auxiliary_u.now c.args.auxiliary_v.now))).0 c.requires).0 in
     let l = c.split_layout-layout.ensures in
     let d = c.stride-stride.ensures.0 in (
       view_of_split c.args.way c.args.size v l d k.0.y_fits k.1 e f,
@@ -55,17 +55,17 @@ asked c v e f =
     )
 
 sized : (c : After-split_layout-layout) → SizesMatch c.args.way c.args.size c.args.main c.args.auxiliary
-sized c = agree_facts c.args.way c.args.size c.args.main c.args.auxiliary (both (sizes_agree c.args.way c.args.size c.args.main) _ ((let inl : (sizes_agree c.args.way c.args.size c.args.main ≡ true) = sym c.sizes_agree.ensures ∙ not-false _ c.if-not-sizes_agree.false in inl)) (auxiliary-agrees c))
+sized c = agree_facts c.args.way c.args.size c.args.main c.args.auxiliary (both (sizes_agree c.args.way c.args.size c.args.main) _ (sym c.sizes_agree.ensures ∙ c.if-not-sizes_agree.false) (auxiliary-agrees c))
 
 -- a view's verdict at the layout and the stride that were found, which are the split's
-at : (c : After-split_layout-layout) (o : Sent) (v : View) (m : Planes) → view_verdict_of o c.split_layout-layout.result c.stride-stride.result ((let inl : (Planes) = planes c.args.y.now c.args.u.now c.args.v.now in inl)) v m ≡ view_verdict_of o (split_layout_of c.args.way c.args.size) (stride_of c.args.size) ((let inl : (Planes) = planes c.args.y.now c.args.u.now c.args.v.now in inl)) v m
-at c o v m = λ i. view_verdict_of o (c.split_layout-layout.ensures i) (c.stride-stride.ensures.0 i) ((let inl : (Planes) = planes c.args.y.now c.args.u.now c.args.v.now in inl)) v m
+at : (c : After-split_layout-layout) (o : Sent) (v : View) (m : Planes) → view_verdict_of o c.split_layout-layout.result c.stride-stride.result (planes c.args.y.now c.args.u.now c.args.v.now) v m ≡ view_verdict_of o (split_layout_of c.args.way c.args.size) (stride_of c.args.size) (planes c.args.y.now c.args.u.now c.args.v.now) v m
+at c o v m = λ i. view_verdict_of o (c.split_layout-layout.ensures i) (c.stride-stride.ensures.0 i) (planes c.args.y.now c.args.u.now c.args.v.now) v m
 
 pub returns-then-not-sizes_agree : goal.returns-then-not-sizes_agree
-returns-then-not-sizes_agree c = pair_main_size c.args.way c.args.size (picture (goal.at.returns-then-not-sizes_agree c).Start) c.args.main (main (goal.at.returns-then-not-sizes_agree c).Start) c.args.auxiliary (auxiliary (goal.at.returns-then-not-sizes_agree c).Start) (sym c.sizes_agree.ensures ∙ not-true _ c.if-not-sizes_agree.true)
+returns-then-not-sizes_agree c = pair_main_size c.args.way c.args.size (picture (goal.at.returns-then-not-sizes_agree c).Start) c.args.main (main (goal.at.returns-then-not-sizes_agree c).Start) c.args.auxiliary (auxiliary (goal.at.returns-then-not-sizes_agree c).Start) (sym c.sizes_agree.ensures ∙ c.if-not-sizes_agree.true)
 
 pub returns-then-not-sizes_agree-2 : goal.returns-then-not-sizes_agree-2
-returns-then-not-sizes_agree-2 c = pair_auxiliary_size c.args.way c.args.size (picture (goal.at.returns-then-not-sizes_agree-2 c).Start) c.args.main (main (goal.at.returns-then-not-sizes_agree-2 c).Start) c.args.auxiliary (auxiliary (goal.at.returns-then-not-sizes_agree-2 c).Start) (sym c.sizes_agree-2.ensures ∙ not-true _ c.if-not-sizes_agree-2.true)
+returns-then-not-sizes_agree-2 c = pair_auxiliary_size c.args.way c.args.size (picture (goal.at.returns-then-not-sizes_agree-2 c).Start) c.args.main (main (goal.at.returns-then-not-sizes_agree-2 c).Start) c.args.auxiliary (auxiliary (goal.at.returns-then-not-sizes_agree-2 c).Start) (sym c.sizes_agree-2.ensures ∙ c.if-not-sizes_agree-2.true)
 
 pub view_verdict-first-requires : goal.view_verdict-first-requires
 view_verdict-first-requires c =
@@ -78,7 +78,7 @@ view_verdict-first-requires c =
 
 pub returns-in_default : goal.returns-in_default
 returns-in_default c =
-    else_first (view_verdict_of Auxiliary (split_layout_of c.args.way c.args.size) (stride_of c.args.size) (picture (goal.at.returns-in_default c).Start) c.args.auxiliary (auxiliary (goal.at.returns-in_default c).Start)) (c.view_verdict-first.ensures ∙ at (goal.at.returns-in_default c).After-split_layout-layout Main c.args.main (main (goal.at.returns-in_default c).Start)) c.in_default.keys2
+    else_first (view_verdict_of Auxiliary (split_layout_of c.args.way c.args.size) (stride_of c.args.size) (picture (goal.at.returns-in_default c).Start) c.args.auxiliary (auxiliary (goal.at.returns-in_default c).Start)) (c.view_verdict-first.ensures ∙ at (goal.at.returns-in_default c).After-split_layout-layout Main c.args.main (main (goal.at.returns-in_default c).Start)) c.in_default.not-Same
     ∙ pair_views c.args.way c.args.size (picture (goal.at.returns-in_default c).Start) c.args.main (main (goal.at.returns-in_default c).Start) c.args.auxiliary (auxiliary (goal.at.returns-in_default c).Start) (main-agrees (goal.at.returns-in_default c).Else-not-sizes_agree) (auxiliary-agrees (goal.at.returns-in_default c).After-split_layout-layout)
 
 pub view_verdict-requires : goal.view_verdict-requires
