@@ -7,7 +7,6 @@ use mathlib.Core.Bool.{true, false, ◌&&◌, true≢false}
 use mathlib.Core.Logic.{◌⊎◌, ⊎_elim}
 use mathlib.Core.List.{List}
 use borrow.Author.Tests.{lt-ltb, le-ltb}
-use denote.Enum.Declared.{tag_of}
 use Rattle.lent.specs.Sizes.{half_up}
 use Rattle.lent.proofs.Bools.{never_true, both, both_left, both_right, cond-true, cond-false}
 use Rattle.picture.specs.declared.Size.{Size}
@@ -48,11 +47,11 @@ module _ (v i : ℕ) (s : ℕ → ℕ → ℕ) (q : Plane) (xs : List ℕ) {f : 
 -- ---- one verdict after the other
 
 -- one that is not same is the whole's
-pub else_first : {d a : Verdict} (rest : Verdict) → d ≡ a → (tag_of the_type d ≡ 1) ⊎ (tag_of the_type d ≡ 2) → d ≡ or_else a rest
+pub else_first : {d a : Verdict} (rest : Verdict) → d ≡ a → (d ≡ Same → ⊥) → d ≡ or_else a rest
 else_first {d} {a} rest e some = by d some ∙ ap (λ (x : Verdict). or_else x rest) e
   where
-    by : (d : Verdict) → (tag_of the_type d ≡ 1) ⊎ (tag_of the_type d ≡ 2) → d ≡ or_else d rest
-    by Same k = absurd (⊎_elim (λ h. let z : ◌≡◌ {A = ℕ} 0 1 = h in omega arith) (λ h. let z : ◌≡◌ {A = ℕ} 0 2 = h in omega arith) k)
+    by : (d : Verdict) → (d ≡ Same → ⊥) → d ≡ or_else d rest
+    by Same k = absurd (k refl)
     by Sizes k = refl
     by (Wrong l) k = refl
 

@@ -3,6 +3,8 @@
 // A call finds its number with the map, then runs the call that has no map (apply_main, apply_auxiliary), then marks: a main view sets 1, an
 // auxiliary view turns 1 into 2, each in a box of blocks for each rectangle. No sample is looked at: which blocks a view completes is
 // known from its size (specs/Boxes.antt), and two rectangles never complete together what neither does alone (proofs/Blocks.antt).
+#![tactic(auto)]
+
 ghost use Rattle.std.specs.Prelude.{◌≡◌, [], ◌∷◌, ◌*◌, ◌-◌, ◌/◌, ◌≤◌, min, length};
 ghost use Rattle.lent.specs.Paint.{painted};
 ghost use Rattle.lent.specs.Sizes.{round_up};
