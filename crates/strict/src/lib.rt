@@ -2,6 +2,8 @@
 //
 // A strict call finds its number first, the list tested between 7 and 3, and answers it; with 0 it runs the clipping call of map_apply, so that
 // what an accepted call leaves is what that call leaves (proofs/Laws.antt). `first_unsound` says which rectangle it was, for a log.
+#![tactic(auto)]
+
 pub mod lists; // the faults of a rectangle, and a list searched for one
 
 ghost use Rattle.std.specs.Prelude.{◌≡◌, [], ◌∷◌, length};

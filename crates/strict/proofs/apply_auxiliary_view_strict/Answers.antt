@@ -1,0 +1,41 @@
+-- `strict::apply_auxiliary_view_strict` meets its contract: a number that is not 0 is answered with nothing run; else the clipping call is run, whose
+-- number is the same.
+-- Assumes nothing.
+use mathlib.Core.Path.{◌≡◌, sym, ◌∙◌}
+use Rattle.strict.specs.Calls.{lent_strict_number_of}
+use Rattle.strict.proofs.Ends.{auxiliary_refused, auxiliary_run}
+use Rattle.strict.proofs.apply_auxiliary_view_strict.Goals.{Else-found-ne0}
+use Rattle.strict.proofs.apply_auxiliary_view_strict.Goals as goal
+
+pub strict_number-found-requires : goal.strict_number-found-requires
+strict_number-found-requires c = tt
+
+pub returns-then-found-ne0 : goal.returns-then-found-ne0
+returns-then-found-ne0 c =
+    let a = c.args in
+    auxiliary_refused a.size a.w a.rects.now a.vy.now a.vu.now a.vv.now a.y.now a.u.now a.v.now a.map.now a.layout c.strict_number-found.ensures c.if-found-ne0.true
+
+pub apply_auxiliary_view-requires : goal.apply_auxiliary_view-requires
+apply_auxiliary_view-requires c = tt
+
+pub shape_of-y : goal.shape_of-y
+shape_of-y c = c.apply_auxiliary_view.auto.y
+
+pub shape_of-u : goal.shape_of-u
+shape_of-u c = c.apply_auxiliary_view.auto.u
+
+pub shape_of-v : goal.shape_of-v
+shape_of-v c = c.apply_auxiliary_view.auto.v
+
+pub shape_of-map : goal.shape_of-map
+shape_of-map c = c.apply_auxiliary_view.auto.map
+
+-- where the call is run the number is 0
+number-0 : (t : Else-found-ne0) → let a = t.args in
+    lent_strict_number_of a.size a.w a.rects.now a.vy.now a.vu.now a.vv.now a.y.now a.u.now a.v.now a.map.now ≡ 0
+number-0 t = sym t.strict_number-found.ensures ∙ t.if-found-ne0.false
+
+pub returns : goal.returns
+returns c =
+    let a = c.args in
+    auxiliary_run a.size a.w a.rects.now a.vy.now a.vu.now a.vv.now a.y.now a.u.now a.v.now a.map.now a.layout (number-0 (goal.at.returns c).Else-found-ne0) c.apply_auxiliary_view.ensures
