@@ -6,6 +6,8 @@
 // (agree_law/specs/Agrees.antt). `both` finds the first number that a step of either walk would give before
 // it writes anything; a refusal changes no byte. Number and every lent byte are equations (agree_law/specs/Both.antt), and 0 comes with
 // the theorem of both.
+#![tactic(auto)]
+
 pub mod one; // one way's calls
 
 ghost use Rattle.std.specs.Prelude.{◌≡◌};

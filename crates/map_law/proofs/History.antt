@@ -110,6 +110,7 @@ module _ (z : Size) (i j : ℕ) where
   keeps s (c ∷ calls) e f = keeps (after z c s) calls (rw (f.0, e) (cond_same (marked z c i j) 1)) f.1
 
   was : (s : ℕ → ℕ → ℕ) (calls : List Call) → MainSince z i j calls → says z s calls i j ≡ 1
+  was s [] x' = elim x' [ ]
   was s (c ∷ calls) (inl h) = keeps (after z c s) calls (rw h.0) h.1
   was s (c ∷ calls) (inr h) = was (after z c s) calls h
 
@@ -131,6 +132,7 @@ module _ (z : Size) (i j : ℕ) where
       (complete (after z c s) calls e)
 
   completes : (s : ℕ → ℕ → ℕ) (calls : List Call) → s i j ≡ 1 → Unmarked z i j calls → Completes z i j calls → says z s calls i j ≡ 2
+  completes s [] e f h = elim h [ ]
   completes s (c ∷ calls) e f h = go (completed z c i j) refl (completes (after z c s) calls) h
     where
       go : (t : Bool) → completed z c i j ≡ t → (after z c s i j ≡ 1 → Unmarked z i j calls → Completes z i j calls → says z (after z c s) calls i j ≡ 2)
@@ -140,6 +142,7 @@ module _ (z : Size) (i j : ℕ) where
       go false q more (inr h) = more (rw (f.0, q, e)) f.1 h
 
   completed_since : (s : ℕ → ℕ → ℕ) (calls : List Call) → CompleteSince z i j calls → says z s calls i j ≡ 2
+  completed_since s [] x' = elim x' [ ]
   completed_since s (c ∷ calls) (inl h) = completes (after z c s) calls (rw h.0) h.1 h.2
   completed_since s (c ∷ calls) (inr h) = completed_since (after z c s) calls h
 
