@@ -24,7 +24,7 @@ use Rattle.apply_auxiliary_rows.proofs.v2.v2_evens.Goals as goal
 
 -- the row is odd; the view has its chroma row, which starts at `at`
 by-odd : (f : In-At) → f.args.row % 2 ≡ 1
-by-odd f = f.if-row-ne1.false
+by-odd f = omega arith
 
 there : (f : In-At) → let a = f.args in (a.row / 2 < half_up a.w.height) × (f.in-At.at ≡ a.row / 2 * a.w.chroma_stride)
 there f =
