@@ -3,6 +3,8 @@
 //
 // A slice passes as a pointer and an element count. An answer that is a number alone stands for a count that is always 0, and a
 // row is its place in the plane that the caller lent, since a slice cannot be returned over this boundary.
+#![tactic(auto)]
+
 pub mod avc444_calls; // the AVC444 payload
 pub mod colour_calls; // for the runs that compare the port with its original, in no header
 pub mod apply_calls; // views into a picture and its map

@@ -34,10 +34,10 @@ numbered c = c.through_number-number.ensures
 
 zero : (c : Else-number-ne0)
     → let a = c.args in
-    through_number_of a.way a.size a.rects.now ((let inl : (Planes) = planes c.args.y.now c.args.u.now c.args.v.now in inl)) ((let inl : (Planes) = planes c.args.main_y.now c.args.main_u.now c.args.main_v.now in inl)) ((let inl : (Planes) = planes c.args.auxiliary_y.now c.args.auxiliary_u.now c.args.auxiliary_v.now in inl)) ((let inl : (Planes) = planes c.args.qy.now c.args.qu.now c.args.qv.now in inl)) ((let inl : (List ℕ) = c.args.q_map.now in inl)) ≡ 0
+    through_number_of a.way a.size a.rects.now (planes a.y.now a.u.now a.v.now) (planes a.main_y.now a.main_u.now a.main_v.now) (planes a.auxiliary_y.now a.auxiliary_u.now a.auxiliary_v.now) (planes a.qy.now a.qu.now a.qv.now) a.q_map.now ≡ 0
 zero c =
     let a = c.args in
-    through_plainly a.way a.size a.rects.now ((let inl : (Planes) = planes c.args.y.now c.args.u.now c.args.v.now in inl)) ((let inl : (Planes) = planes c.args.main_y.now c.args.main_u.now c.args.main_v.now in inl)) ((let inl : (Planes) = planes c.args.auxiliary_y.now c.args.auxiliary_u.now c.args.auxiliary_v.now in inl)) ((let inl : (Planes) = planes c.args.qy.now c.args.qu.now c.args.qv.now in inl)) ((let inl : (List ℕ) = c.args.q_map.now in inl)) ∙ sym ((let inl : (c.through_number-number.result ≡ first_of (split_number_of c.args.way c.args.size (lengths_of (from c)) (lengths_of (main c)) (lengths_of (auxiliary c))) (earlier_number_of c.args.size (lengths_of (old c)) (length (map c)) (length c.args.rects.now))) = c.through_number-number.ensures in inl)) ∙ c.if-number-ne0.false
+    through_plainly a.way a.size a.rects.now (planes a.y.now a.u.now a.v.now) (planes a.main_y.now a.main_u.now a.main_v.now) (planes a.auxiliary_y.now a.auxiliary_u.now a.auxiliary_v.now) (planes a.qy.now a.qu.now a.qv.now) a.q_map.now ∙ sym c.through_number-number.ensures ∙ c.if-number-ne0.false
 
 pub returns-then-number-ne0 : goal.returns-then-number-ne0
 returns-then-number-ne0 c =

@@ -1,0 +1,30 @@
+-- `haythaw_apply_auxiliary_v2_strict` meets its contract: it hands all over with the layout of its rule, and of the answer it hands back
+-- the number.
+-- Assumes nothing.
+use Rattle.haythaw.specs.Sizes.{sizes_of, size_of}
+use Rattle.haythaw.proofs.StrictNumbers.{strict_number}
+use Rattle.haythaw.proofs.strict_calls.haythaw_apply_auxiliary_v2_strict.Goals as goal
+
+pub layout_of-layout-requires : goal.layout_of-layout-requires
+layout_of-layout-requires c = tt
+
+pub apply_auxiliary_view_strict-requires : goal.apply_auxiliary_view_strict-requires
+apply_auxiliary_view_strict-requires c = tt
+
+pub shape_of-y : goal.shape_of-y
+shape_of-y c = c.apply_auxiliary_view_strict.auto.y
+
+pub shape_of-u : goal.shape_of-u
+shape_of-u c = c.apply_auxiliary_view_strict.auto.u
+
+pub shape_of-v : goal.shape_of-v
+shape_of-v c = c.apply_auxiliary_view_strict.auto.v
+
+pub shape_of-map : goal.shape_of-map
+shape_of-map c = c.apply_auxiliary_view_strict.auto.map
+
+pub returns : goal.returns
+returns c =
+    let a = c.args in
+    strict_number c.layout_of-layout.ensures (size_of a.width a.height) (sizes_of a.view_width a.view_height a.luma_stride a.chroma_stride)
+    a.rects.now a.view_y.now a.view_u.now a.view_v.now a.y.now a.u.now a.v.now a.map.now c.apply_auxiliary_view_strict.ensures
