@@ -18,7 +18,6 @@ use Rattle.annex_b.specs.Format.{start_code, summed}
 use Rattle.annex_b.specs.AnnexB.{count_of, annexed, annex_b_of, annex_number}
 use Rattle.annex_b.proofs.UnitLaws.{unit_at_facts, by_units, units_more}
 use Rattle.annex_b.proofs.Made.{summed_more, summed_none}
-use Rattle.annex_b.proofs.Written.{length-annexed}
 
 module _ (s out : List ℕ) where
   pub annex_6_exactly : (annex_number s out ≡ 6) ↔ (length out < count_of s)

@@ -4,7 +4,7 @@
 -- Assumes nothing.
 use Prim.Native.Nat.{ℕ, ◌+◌, ◌*◌, ◌/◌, ◌%◌, ◌<◌, ◌≤◌, min}
 use native.Mathlib.Omega.{arith}
-use mathlib.Core.Path.{◌≡◌, refl, sym, ap, ◌∙◌}
+use mathlib.Core.Path.{◌≡◌, sym, ap, ◌∙◌}
 use mathlib.Core.Bool.{true, false, ◌&&◌}
 use mathlib.Core.Logic.{⊎_elim}
 use mathlib.Core.List.{List, [], ◌∷◌}
@@ -12,7 +12,6 @@ use Rattle.lent.specs.declared.Answer.{Answer}
 use lib.Dec.{ltb}
 use Rattle.lent.specs.Outcome.{answer_of, lent_after}
 use Rattle.lent.specs.Paint.{box, up_to}
-use Rattle.lent.specs.Samples.{sample}
 use Rattle.lent.specs.Sizes.{round_up, half_up}
 use Rattle.lent.proofs.Bools.{never_true}
 use Rattle.lent.proofs.Outcome.{outcome_unique}

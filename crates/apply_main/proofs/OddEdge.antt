@@ -1,7 +1,6 @@
 -- Document 01's empty rectangle (5,0,5,4) on a 5x5 picture with a 16x16 view, by computation over the whole plane: it takes chroma
 -- columns 4 and 5 of rows 0 to 3, and no luma.
 -- Assumes nothing.
-use Prim.Native.Nat.{ℕ}
 use mathlib.Core.Path.{◌≡◌, refl}
 use mathlib.Core.Bool.{false}
 use mathlib.Core.List.{[], ◌∷◌}

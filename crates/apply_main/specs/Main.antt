@@ -8,7 +8,7 @@
 --                                               luma at its own row and column, and every other byte is as before
 --   chroma_after z w rects samples plane         the same of U or V, with that plane of the view
 --   ApplyMainViewOutcome ...                    how the call ends, refusals included; its number, `lent_number_of`, is said in rects and passed on here
-use Rattle.std.specs.Prelude.{ℕ, min, Bool, ◌&&◌, List, [], ◌∷◌, ltb}
+use Rattle.std.specs.Prelude.{ℕ, min, ◌&&◌, List, [], ◌∷◌, ltb}
 use Rattle.lent.specs.declared.Answer.{Answer}
 use Rattle.lent.specs.Outcome.{Outcome, answer_of, lent_after}
 use Rattle.lent.specs.Paint.{painted, box, up_to}

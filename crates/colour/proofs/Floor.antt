@@ -1,12 +1,12 @@
 -- `z ÷ 256` is the floor: 256 times it is at most z, and 256 times one more is above z. Assumes nothing.
 use mathlib.Core.Path.{◌≡◌, sym, ◌∙◌, ap}
-use Prim.Native.Nat.{ℕ, suc, ◌+◌, ◌*◌, ◌-◌, ◌/◌}
+use Prim.Native.Nat.{ℕ, suc, ◌+◌, ◌*◌, ◌/◌}
 use native.Mathlib.Omega.{arith}
 use lib.Dec.{le→leb, lt→ltb}
-use lib.IntN.{ℤ, pos, negsuc, neg_ℤ, ◌+ℤ◌, ◌*ℤ◌}
+use lib.IntN.{ℤ, pos, negsuc, ◌+ℤ◌, ◌*ℤ◌}
 use lib.Signed.{◌≤ℤ◌, ◌<ℤ◌}
 use Rattle.colour.specs.Whole.{◌÷◌}
-use Rattle.colour.proofs.Whole.{diff, diff_neg, diff_pos, neg_pos, add_pos, sign}
+use Rattle.colour.proofs.Whole.{diff, diff_neg, neg_pos, add_pos, sign}
 
 times : (q : ℕ) → pos 256 *ℤ negsuc q ≡ negsuc (256 * q + 255)
 times q = neg_pos (256 * suc q) ∙ diff_neg 0 (256 * suc q) (256 * q + 255) (omega arith)

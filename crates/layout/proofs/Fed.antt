@@ -5,7 +5,7 @@ use Prim.Native.Nat.{ℕ, ◌+◌, ◌*◌, ◌-◌, ◌/◌, ◌%◌, ◌<◌}
 use native.Mathlib.Omega.{arith}
 use mathlib.Core.Path.{◌≡◌, refl, sym, ap, ◌∙◌}
 use mathlib.Core.Bool.{true}
-use mathlib.Core.Logic.{◌⊎◌, ⊎_elim}
+use mathlib.Core.Logic.{⊎_elim}
 use Rattle.layout.specs.Maps.{Maps, maps, wide_of, layout_of, view_wide_of, Part, PY, PU, PV, Place, place, spot, to_main, part_of, shift, into, upper_of, to_v1, from_v1, to_v2, from_v2, maps_v1, maps_v2}
 use Rattle.layout.specs.Exists.{present, carried}
 use Rattle.layout.specs.Fed.{Fed, FedOnce, BlockFed, beside_of, below_of, across_of}

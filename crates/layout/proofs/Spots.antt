@@ -3,9 +3,8 @@ use Prim.Native.Nat.{ℕ, ◌+◌, ◌*◌, ◌/◌, ◌%◌, ◌<◌}
 use mathlib.Core.Path.{◌≡◌, refl}
 use mathlib.Core.Bool.{cond}
 use lib.Dec.{eqb}
-use Rattle.layout.specs.Maps.{PY, PU, PV, place, spot, part_of, shift, upper_of, to_v1, from_v1, to_v2, from_v2}
+use Rattle.layout.specs.Maps.{PY, PU, PV, place, spot, part_of, shift, upper_of, to_v1, to_v2, from_v2}
 use Rattle.layout.specs.declared.Chroma.{Chroma}
-use Rattle.layout.specs.declared.Chroma.TheVariants.{CU, CV}
 use Rattle.layout.proofs.Halves.{half_at}
 use Rattle.layout.proofs.Exists.{odd_test, even_test}
 

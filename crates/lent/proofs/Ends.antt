@@ -6,7 +6,6 @@ use mathlib.Core.Path.{◌≡◌, sym, ◌∙◌}
 use mathlib.Core.List.{List}
 use lib.Dec.{eqb}
 use borrow.Author.Tests.{eq-eqb, ne_eqb}
-use Rattle.lent.specs.declared.Answer.{Answer}
 use Rattle.lent.specs.Outcome.{answer_of, lent_after}
 use Rattle.lent.proofs.Bools.{cond-true, cond-false, cond_same}
 

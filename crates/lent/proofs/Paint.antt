@@ -12,7 +12,7 @@ use lib.ListN.{length, get_or, set, length-set}
 use lib.Seq.{ext_get_or, get_or-set_same, get_or-set_other}
 use borrow.Author.Tests.{lt-ltb, ltb-true}
 use Rattle.lent.specs.Paint.{paint, every}
-use Rattle.lent.proofs.Bools.{split, same_test, cond_ext, cond-false, cond-true, cond-cond, cond_same}
+use Rattle.lent.proofs.Bools.{split, same_test, cond_ext, cond-false, cond-true, cond-cond}
 
 pub length-paint : (t : ℕ → Bool) (s : ℕ → ℕ) (xs : List ℕ) → length (paint t s xs) ≡ length xs
 unfolding paint

@@ -1,11 +1,10 @@
 -- The laws of rows of pixels: one store more is one pixel more (`done_step`).
 -- Assumes nothing.
-use Prim.Native.Nat.{ℕ, zero, suc, ◌+◌, ◌*◌, ◌/◌, ◌%◌, ◌-◌, ◌<◌, ◌≤◌}
+use Prim.Native.Nat.{ℕ, suc, ◌+◌, ◌*◌, ◌/◌, ◌%◌, ◌<◌, ◌≤◌}
 use native.Mathlib.Nat.{add-zero}
 use native.Mathlib.Numerals.{add-one, add-two, add-three}
 use native.Mathlib.Omega.{arith}
-use mathlib.Core.Path.{◌≡◌, refl, sym, ap, ◌∙◌, subst}
-use mathlib.Core.Bool.{Bool, true, false}
+use mathlib.Core.Path.{◌≡◌, refl, sym, ap, ◌∙◌}
 use mathlib.Core.List.{List, [], ◌∷◌}
 use lib.Dec.{ltb}
 use lib.ListN.{length, get_or, set, drop_of_length-le}
@@ -13,7 +12,7 @@ use lib.Seq.{sets, drop-cons}
 use borrow.Author.Tests.{lt-ltb, le-ltb}
 use Rattle.lent.specs.Paint.{paint, every}
 use Rattle.lent.specs.Pixels.{bytes, done}
-use Rattle.lent.proofs.Paint.{paint_none, paint_ext, paint_next, length-paint}
+use Rattle.lent.proofs.Paint.{paint_none, paint_ext, paint_next}
 
 pub done_none : (f : ℕ → List ℕ) (xs : List ℕ) → xs ≡ done f 0 xs
 done_none f xs = paint_none _ _ xs (λ k h. le-ltb k (4 * 0) (omega arith))

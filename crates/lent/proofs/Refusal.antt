@@ -3,11 +3,11 @@
 -- Assumes nothing.
 use Prim.Native.Nat.{ℕ}
 use mathlib.Core.Path.{◌≡◌, refl, sym, subst}
-use mathlib.Core.Bool.{Bool, true, false, cond, true≢false, false≢true, ◌&&◌, not}
+use mathlib.Core.Bool.{Bool, true, false, cond, true≢false, ◌&&◌, not}
 use mathlib.Core.Logic.{◌↔◌}
 use mathlib.Core.List.{List, [], ◌∷◌, ◌++◌}
 use lib.Dec.{eqb, T, T_not, eqb_refl}
-use Rattle.lent.specs.Refusal.{refusal, NoneHolds, free, Free}
+use Rattle.lent.specs.Refusal.{refusal, NoneHolds, Free}
 use Rattle.lent.proofs.Bools.{cond-true}
 
 T-left : (a b : Bool) → T (a && b) → T a

@@ -14,7 +14,7 @@ use lib.Seq.{get_or-take, get_or-drop, length-take-le}
 use Rattle.lent.specs.Counts.{total, one, count_of}
 use Rattle.lent.specs.Samples.{sample}
 use Rattle.lent.proofs.Bools.{split}
-use Rattle.lent.proofs.Counts.{total_none, total-one, total_more, total_same, total_low, total_zero, count_low}
+use Rattle.lent.proofs.Counts.{total_none, total-one, total_more, total_same, total_low, count_low}
 use Rattle.map.specs.Map.{stale, stale_rows_of}
 
 -- one place, and one value everywhere

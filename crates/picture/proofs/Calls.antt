@@ -7,7 +7,6 @@ use mathlib.Core.List.{List, [], ◌∷◌}
 use lib.Dec.{eqb}
 use lib.ListN.{length, get_or}
 use Rattle.lent.specs.Outcome.{Outcome, answer_of, lent_after}
-use Rattle.lent.specs.declared.Answer.{Answer}
 use Rattle.lent.proofs.Ends.{answer_none, lent_refused, lent_done}
 use Rattle.lent.proofs.Painted.{painted_past}
 use Rattle.picture.specs.declared.Size.{Size}

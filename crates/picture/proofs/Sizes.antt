@@ -1,13 +1,12 @@
 -- A picture's planes are small, even-sided, and not short where refusal 1 is not given. Assumes nothing.
 use Prim.Native.Nat.{ℕ, ◌*◌, ◌<◌, ◌≤◌}
 use native.Mathlib.Nat.{mul-le-mul_right, mul-le-mul_left, le_trans}
-use mathlib.Core.Path.{◌≡◌, refl}
-use mathlib.Core.Bool.{Bool, true, false, ◌||◌, true≢false}
+use mathlib.Core.Path.{◌≡◌}
+use mathlib.Core.Bool.{true, false, ◌||◌}
 use mathlib.Core.Logic.{◌↔◌, ◌⊎◌}
-use borrow.Author.Tests.{ltb-false}
 use Rattle.lent.specs.Sizes.{too_short}
 use Rattle.lent.proofs.Bools.{or_left, or_right}
-use Rattle.lent.proofs.Exactly.{below, not-below, or_exactly, nor, nor_exactly}
+use Rattle.lent.proofs.Exactly.{below, not-below, or_exactly, nor_exactly}
 use Rattle.picture.specs.declared.Size.{Size}
 use Rattle.picture.specs.Sizes.{stride_of, rows_of, planes_short, PlanesFit}
 

@@ -1,19 +1,18 @@
 -- The table of numbers, "given exactly when", for the apply calls, in the order 1, 7, 3, 4; and what an accepted call has.
 -- Assumes nothing.
-use Prim.Native.Nat.{ℕ, ◌%◌}
+use Prim.Native.Nat.{ℕ}
 use native.Mathlib.Omega.{arith}
-use mathlib.Core.Path.{◌≡◌, refl, sym, ◌∙◌}
-use mathlib.Core.Bool.{Bool, true, false}
+use mathlib.Core.Path.{◌≡◌}
+use mathlib.Core.Bool.{true, false}
 use mathlib.Core.Logic.Iff
 use mathlib.Core.Logic.{◌↔◌, true-and, and-true}
 use mathlib.Core.List.{[], ◌∷◌}
-use Rattle.lent.specs.Refusal.{refusal}
 use Rattle.lent.proofs.Refusal.{refusal_exactly, refusal_none}
 use Rattle.picture.specs.declared.Size.{Size}
 use Rattle.picture.specs.Sizes.{planes_short}
 use Rattle.picture.proofs.Sizes.{planes_fit}
 use Rattle.view.specs.declared.View.{View}
-use Rattle.view.specs.View.{narrow, plane_short, view_number_of}
+use Rattle.view.specs.View.{narrow, plane_short}
 use Rattle.view.proofs.Exactly.{view_0_exactly, accepted_fits}
 use Rattle.rects.specs.Number.{not_fours, apply_number_of, ApplyAccepted}
 

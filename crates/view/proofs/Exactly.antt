@@ -2,13 +2,11 @@
 -- Assumes nothing.
 use Prim.Native.Nat.{ℕ, ◌*◌, ◌≤◌, ◌<◌}
 use native.Mathlib.Omega.{arith}
-use mathlib.Core.Path.{◌≡◌, refl}
-use mathlib.Core.Bool.{Bool, true, false, ◌||◌, true≢false}
+use mathlib.Core.Path.{◌≡◌}
+use mathlib.Core.Bool.{true, false}
 use mathlib.Core.Logic.Iff
-use mathlib.Core.Logic.{◌↔◌, ◌⊎◌, inl, inr, ⊎_elim, true-and, and-true}
+use mathlib.Core.Logic.{◌↔◌, ◌⊎◌, true-and, and-true}
 use mathlib.Core.List.{[], ◌∷◌}
-use lib.Dec.{ltb}
-use borrow.Author.Tests.{ltb-true, ltb-false, lt-ltb, le-ltb}
 use Rattle.lent.specs.Sizes.{half_up}
 use Rattle.lent.proofs.Exactly.{below, not-below, or_exactly, nor_exactly}
 use Rattle.lent.proofs.Refusal.{refusal_exactly, refusal_none}

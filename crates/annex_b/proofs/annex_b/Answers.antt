@@ -1,7 +1,6 @@
 -- `annex_b::annex_b` meets its contract. The invariant: the units after the position, put in their place, make the output that all units
 -- make of the output at the start; and the position and these units are all that is counted.
 -- Assumes nothing.
-use Prim.Native.Nat.{◌-◌}
 use native.Mathlib.Omega.{arith}
 use mathlib.Core.Path.{refl, ◌∙◌}
 use Rattle.annex_b.specs.AnnexB.{count_of}

@@ -1,6 +1,5 @@
 -- `annex_b::count` meets its contract. The invariant: the position and the units after it are all that is counted.
 -- Assumes nothing.
-use Prim.Native.Nat.{◌-◌}
 use native.Mathlib.Omega.{arith}
 use mathlib.Core.Path.{◌∙◌}
 use Rattle.annex_b.specs.AnnexB.{count_of}

@@ -1,6 +1,5 @@
 -- `annex_b::made_of_units` meets its contract. The invariant: what is left is made of units exactly where the whole is.
 -- Assumes nothing.
-use Prim.Native.Nat.{◌-◌}
 use native.Mathlib.Omega.{arith}
 use mathlib.Core.Path.{refl, ◌∙◌}
 use Rattle.annex_b.proofs.UnitLaws.{Found, found, found_none}

@@ -1,6 +1,5 @@
 -- `annex_b::starts_with` meets its contract. The invariant: what is left to compare decides as the whole does.
 -- Assumes nothing.
-use Prim.Native.Nat.{◌-◌}
 use native.Mathlib.Omega.{arith}
 use mathlib.Core.Path.{refl, sym, ◌∙◌}
 use Rattle.annex_b.proofs.Starts.{starts_short, starts_all, starts_more, starts_none}

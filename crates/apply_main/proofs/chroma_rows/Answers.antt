@@ -1,7 +1,6 @@
 -- `apply_main::chroma_rows` meets its contract. The invariant: whatever plane the rows before the loop's first were written in, the plane is that
 -- one, painted by what the area takes in the rows below `row`.
 -- Assumes nothing.
-use Prim.Native.Nat.{◌-◌}
 use native.Mathlib.Omega.{arith}
 use mathlib.Core.Path.{refl}
 use Rattle.apply_main.proofs.RectRows.{box_rows_more, box_rows_all}

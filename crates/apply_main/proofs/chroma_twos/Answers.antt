@@ -1,7 +1,6 @@
 -- `apply_main::chroma_twos` meets its contract. The invariant: the plane is painted by what the area takes in the rows below `row`, which is even and
 -- fits the machine word, so that row + 1 fits it too.
 -- Assumes nothing.
-use Prim.Native.Nat.{◌-◌}
 use native.Mathlib.Omega.{arith}
 use Rattle.apply_main.proofs.RectRows.{box_rows_none, box_rows_two}
 use Rattle.apply_main.proofs.chroma_twos.Goals as goal

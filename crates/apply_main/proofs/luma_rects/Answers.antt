@@ -1,6 +1,5 @@
 -- `apply_main::luma_rects` meets its contract. The invariant: the plane is painted by what the first i rectangles take.
 -- Assumes nothing.
-use Prim.Native.Nat.{◌-◌}
 use native.Mathlib.Omega.{arith}
 use Rattle.apply_main.specs.Main.{main_luma}
 use Rattle.rects.proofs.Rects.{rects_none, rects_more, rects_all}

@@ -1,6 +1,5 @@
 -- `apply_main::luma_rows` meets its contract. The invariant: the plane is painted by what the area takes in the rows below `row`.
 -- Assumes nothing.
-use Prim.Native.Nat.{◌-◌}
 use Rattle.apply_main.proofs.RectRows.{box_rows_none, box_rows_more, box_rows_all}
 use Rattle.apply_main.proofs.luma_rows.Goals as goal
 

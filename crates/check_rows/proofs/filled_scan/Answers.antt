@@ -1,6 +1,5 @@
 -- `check_rows::filled_scan` meets its contract. The invariant: the columns that were passed are `fill`.
 -- Assumes nothing.
-use Prim.Native.Nat.{◌-◌}
 use native.Mathlib.Omega.{arith}
 use mathlib.Core.Path.{refl}
 use lib.ListN.{length}

@@ -1,6 +1,6 @@
 -- `check_rows::right_8` meets its contract. The invariant: the columns below `at` are right.
 -- Assumes nothing.
-use Prim.Native.Nat.{◌+◌, ◌-◌}
+use Prim.Native.Nat.{◌+◌}
 use native.Mathlib.Omega.{arith}
 use mathlib.Core.Path.{refl}
 use lib.ListN.{get_or}

@@ -1,6 +1,6 @@
 -- `check_rows::scan` meets its contract. The invariant: the columns that were passed are right.
 -- Assumes nothing.
-use Prim.Native.Nat.{◌+◌, ◌-◌, ◌*◌}
+use Prim.Native.Nat.{◌+◌, ◌*◌}
 use native.Mathlib.Omega.{arith}
 use mathlib.Core.Path.{refl}
 use lib.ListN.{length, get_or}

@@ -1,7 +1,7 @@
 -- `columns::put_odds` meets its contract. The invariant: the odd places below 2 i are painted. The word that is read has the even byte as it
 -- is, so that storing it changes nothing: `odds_next`.
 -- Assumes nothing.
-use Prim.Native.Nat.{ℕ, ◌+◌, ◌*◌, ◌/◌, ◌-◌}
+use Prim.Native.Nat.{ℕ, ◌+◌, ◌*◌, ◌/◌}
 use native.Mathlib.Omega.{arith}
 use mathlib.Core.Path.{◌≡◌, refl, ap, ◌∙◌}
 use lib.ListN.{get_or}

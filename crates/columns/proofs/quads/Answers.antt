@@ -1,6 +1,5 @@
 -- `columns::quads` meets its contract. The invariant: the first i fours are painted; a word of four bytes is four places more, `fours_next`.
 -- Assumes nothing.
-use Prim.Native.Nat.{◌-◌}
 use native.Mathlib.Omega.{arith}
 use mathlib.Core.Path.{◌≡◌, ◌∙◌}
 use Rattle.lent.proofs.SoFar.{so_far_none}

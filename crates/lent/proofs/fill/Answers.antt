@@ -1,6 +1,5 @@
 -- `lent::fill` meets its contract. The invariant: the first i bytes are painted with the value.
 -- Assumes nothing.
-use Prim.Native.Nat.{◌-◌}
 use native.Mathlib.Omega.{arith}
 use mathlib.Core.Path.{refl, ◌∙◌}
 use lib.ListN.{length-set}

@@ -1,6 +1,6 @@
 -- `split_rows::pair` meets its contract. The invariant: the pairs below i are made.
 -- Assumes nothing.
-use Prim.Native.Nat.{◌+◌, ◌-◌, ◌*◌}
+use Prim.Native.Nat.{◌+◌, ◌*◌}
 use native.Mathlib.Omega.{arith}
 use mathlib.Core.Path.{◌≡◌}
 use Rattle.lent.proofs.SoFar.{so_far_none, so_far_more}

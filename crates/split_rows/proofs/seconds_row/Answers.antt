@@ -1,6 +1,5 @@
 -- `split_rows::seconds_row` meets its contract. The invariant: the bytes below `at` are written.
 -- Assumes nothing.
-use Prim.Native.Nat.{◌-◌}
 use native.Mathlib.Omega.{arith}
 use mathlib.Core.Path.{refl}
 use Rattle.lent.proofs.SoFar.{so_far_none, so_far_all}

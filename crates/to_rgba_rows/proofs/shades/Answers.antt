@@ -1,6 +1,5 @@
 -- `to_rgba_rows::shades` meets its contract. The invariant: the first i pixels are done.
 -- Assumes nothing.
-use Prim.Native.Nat.{◌-◌}
 use native.Mathlib.Omega.{arith}
 use mathlib.Core.Path.{refl, ◌∙◌}
 use borrow.Author.Rules.{rules}

@@ -1,6 +1,5 @@
 -- `to_rgba_rows::shares` meets its contract. The invariant: the first i of each array are the shares of the first i samples.
 -- Assumes nothing.
-use Prim.Native.Nat.{◌-◌}
 use native.Mathlib.Omega.{arith}
 use mathlib.Core.Path.{◌≡◌}
 use borrow.Author.Rules.{rules}

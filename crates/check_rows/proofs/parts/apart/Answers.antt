@@ -1,6 +1,5 @@
 -- `check_rows::parts::apart` meets its contract. The invariant: the bits are 0 exactly when the columns that were passed are right.
 -- Assumes nothing.
-use Prim.Native.Nat.{◌-◌}
 use native.Mathlib.Omega.{arith}
 use mathlib.Core.Path.{refl}
 use lib.ListN.{get_or}

@@ -1,7 +1,7 @@
 -- `columns::both::mix` meets its contract. The invariant: the first 2 i places of t are written. A word has the byte of `old` at its even place and
 -- that of `from` at its odd one.
 -- Assumes nothing.
-use Prim.Native.Nat.{ℕ, ◌-◌}
+use Prim.Native.Nat.{ℕ}
 use native.Mathlib.Omega.{arith}
 use mathlib.Core.Path.{◌≡◌, sym, ◌∙◌}
 use Rattle.lent.proofs.SoFar.{so_far_none}

@@ -1,7 +1,7 @@
 -- `columns::both::put_few` meets its contract. The invariant: the odd places below 2 i of both rows are painted. A turn paints one more of each:
 -- `odd_next`.
 -- Assumes nothing.
-use Prim.Native.Nat.{ℕ, ◌+◌, ◌*◌, ◌/◌, ◌-◌}
+use Prim.Native.Nat.{ℕ, ◌+◌, ◌*◌, ◌/◌}
 use native.Mathlib.Omega.{arith}
 use mathlib.Core.Path.{◌≡◌, refl, ap}
 use lib.ListN.{get_or}

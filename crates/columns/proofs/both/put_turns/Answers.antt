@@ -1,7 +1,7 @@
 -- `columns::both::put_turns` meets its contract. The invariant: the first 2 i places of both rows are written, with the bytes that they had at the
 -- even ones.
 -- Assumes nothing.
-use Prim.Native.Nat.{ℕ, ◌+◌, ◌*◌, ◌-◌}
+use Prim.Native.Nat.{ℕ, ◌+◌, ◌*◌}
 use native.Mathlib.Omega.{arith}
 use mathlib.Core.Path.{◌∙◌}
 use Rattle.lent.proofs.SoFar.{so_far_none}

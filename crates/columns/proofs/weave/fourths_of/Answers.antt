@@ -1,6 +1,5 @@
 -- `columns::weave::fourths_of` meets its contract. The invariant: the first i bytes are painted.
 -- Assumes nothing.
-use Prim.Native.Nat.{◌-◌}
 use native.Mathlib.Omega.{arith}
 use mathlib.Core.Path.{refl}
 use Rattle.lent.proofs.SoFar.{so_far_none, so_far_more, so_far_all}

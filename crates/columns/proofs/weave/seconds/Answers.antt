@@ -1,6 +1,5 @@
 -- `columns::weave::seconds` meets its contract. The invariant: the first i bytes are painted.
 -- Assumes nothing.
-use Prim.Native.Nat.{◌-◌}
 use native.Mathlib.Omega.{arith}
 use mathlib.Core.Path.{◌≡◌, refl}
 use Rattle.lent.proofs.SoFar.{so_far_none, so_far_more}

@@ -1,6 +1,5 @@
 -- `columns::weave::weave` meets its contract. The invariant: the first i pairs are painted.
 -- Assumes nothing.
-use Prim.Native.Nat.{◌-◌}
 use native.Mathlib.Omega.{arith}
 use mathlib.Core.Path.{◌≡◌, refl}
 use lib.ListN.{length-set}

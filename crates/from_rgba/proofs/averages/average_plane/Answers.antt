@@ -1,7 +1,7 @@
 -- `from_rgba::averages::average_plane` meets its contract. The invariant: the rows below `row`, which is even, hold their averages, and the others are as
 -- they were.
 -- Assumes nothing.
-use Prim.Native.Nat.{◌+◌, ◌*◌, ◌-◌, ◌≤◌}
+use Prim.Native.Nat.{◌+◌, ◌*◌, ◌≤◌}
 use native.Mathlib.Omega.{arith}
 use mathlib.Core.Path.{refl, ap, ◌∙◌}
 use lib.ListN.{length}

@@ -1,6 +1,6 @@
 -- `from_rgba::averages::averages_of` meets its contract. The invariant: the first 2 i columns are in the array. `two_averaged` is a block.
 -- Assumes nothing.
-use Prim.Native.Nat.{◌-◌, ◌*◌}
+use Prim.Native.Nat.{◌*◌}
 use native.Mathlib.Omega.{arith}
 use mathlib.Core.Path.{◌≡◌}
 use Rattle.lent.proofs.SoFar.{so_far_none}

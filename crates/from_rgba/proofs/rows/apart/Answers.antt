@@ -1,6 +1,5 @@
 -- `from_rgba::rows::apart` meets its contract. The invariant: each array has the first i pixels' byte.
 -- Assumes nothing.
-use Prim.Native.Nat.{◌-◌}
 use native.Mathlib.Omega.{arith}
 use Rattle.lent.proofs.SoFar.{so_far_none, so_far_more, so_far_all}
 use Rattle.from_rgba.proofs.rows.apart.Goals as goal

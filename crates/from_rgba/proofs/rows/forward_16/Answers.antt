@@ -1,6 +1,5 @@
 -- `from_rgba::rows::forward_16` meets its contract. The invariant: in each array the first i samples are the first i colours' converted.
 -- Assumes nothing.
-use Prim.Native.Nat.{◌-◌}
 use native.Mathlib.Omega.{arith}
 use mathlib.Core.Path.{ap}
 use Rattle.colour.specs.declared.Yuv.{Yuv}

@@ -1,7 +1,7 @@
 -- `from_rgba::rows::forward_rows` meets its contract. The invariant: in each plane the picture's places of the rows below `row` hold the
 -- converted pixels, and all else is as it was.
 -- Assumes nothing.
-use Prim.Native.Nat.{ℕ, ◌*◌, ◌-◌, ◌<◌, ◌≤◌}
+use Prim.Native.Nat.{ℕ, ◌*◌, ◌<◌, ◌≤◌}
 use native.Mathlib.Omega.{arith}
 use mathlib.Core.Path.{◌≡◌, refl, ap, ◌∙◌}
 use mathlib.Core.List.{List}

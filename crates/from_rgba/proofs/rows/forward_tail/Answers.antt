@@ -1,6 +1,5 @@
 -- `from_rgba::rows::forward_tail` meets its contract. The invariant: in each row the first i samples are the first i pixels' converted.
 -- Assumes nothing.
-use Prim.Native.Nat.{◌-◌}
 use native.Mathlib.Omega.{arith}
 use mathlib.Core.Path.{ap}
 use Rattle.colour.specs.declared.Yuv.{Yuv}

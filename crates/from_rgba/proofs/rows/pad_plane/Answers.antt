@@ -1,6 +1,6 @@
 -- `from_rgba::rows::pad_plane` meets its contract. The invariant: the padding of the rows below `row` holds the value, and all else is as it was.
 -- Assumes nothing.
-use Prim.Native.Nat.{◌+◌, ◌*◌, ◌-◌, ◌≤◌}
+use Prim.Native.Nat.{◌+◌, ◌*◌, ◌≤◌}
 use native.Mathlib.Omega.{arith}
 use mathlib.Core.Path.{refl, ap, ◌∙◌}
 use mathlib.Core.Bool.{not}

@@ -1,6 +1,6 @@
 -- `lent::long::copy` meets its contract. The invariant: the first k bytes are those of src. `front_more` is one turn.
 -- Assumes nothing.
-use Prim.Native.Nat.{ℕ, ◌+◌, ◌-◌}
+use Prim.Native.Nat.{ℕ, ◌+◌}
 use native.Mathlib.Omega.{arith}
 use mathlib.Core.Path.{refl}
 use Rattle.lent.proofs.Copies.{front_more, front_all}

@@ -1,7 +1,7 @@
 -- `map::boxes::turn_box` meets its contract. The invariant: the map is painted by what the box takes in the rows below `row`, from the map
 -- as it was before the loop; row `row` is still as it was then.
 -- Assumes nothing.
-use Prim.Native.Nat.{ℕ, ◌+◌, ◌*◌, ◌-◌, ◌<◌, ◌≤◌}
+use Prim.Native.Nat.{ℕ, ◌+◌, ◌*◌, ◌<◌, ◌≤◌}
 use native.Mathlib.Omega.{arith}
 use mathlib.Core.Path.{refl, ap, ◌∙◌}
 use lib.ListN.{length}

@@ -1,6 +1,5 @@
 -- `map::boxes::turn_each` meets its contract. The invariant: the first k bytes are turned, the others are as they were.
 -- Assumes nothing.
-use Prim.Native.Nat.{◌-◌}
 use native.Mathlib.Omega.{arith}
 use lib.ListN.{length-set}
 use Rattle.lent.proofs.SoFar.{so_far_none, so_far_all}

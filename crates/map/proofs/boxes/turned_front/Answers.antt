@@ -1,6 +1,5 @@
 -- `map::boxes::turned_front` meets its contract. The invariant: the first i bytes are those of src, turned.
 -- Assumes nothing.
-use Prim.Native.Nat.{◌-◌}
 use native.Mathlib.Omega.{arith}
 use mathlib.Core.Path.{◌≡◌}
 use Rattle.lent.proofs.SoFar.{so_far_none, so_far_more}

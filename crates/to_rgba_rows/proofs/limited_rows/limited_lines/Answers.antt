@@ -1,7 +1,7 @@
 -- `to_rgba_rows::limited_rows::limited_lines` meets its contract. The invariant: the rows below l are done. A row was lent, written whole and came
 -- back, `whole_more`, by the chroma of the even row, `paired_row`.
 -- Assumes nothing.
-use Prim.Native.Nat.{◌+◌, ◌*◌, ◌-◌, ◌≤◌}
+use Prim.Native.Nat.{◌+◌, ◌*◌, ◌≤◌}
 use native.Mathlib.Nat.{add-mul}
 use native.Mathlib.Omega.{arith}
 use mathlib.Core.Path.{refl, ap, ◌∙◌}

@@ -2,7 +2,7 @@
 -- done, those before `col` are; a part that is to come starts at an even column; and the samples before `col` are counted, of either plane.
 -- `smooth_more` and `counted_more` are one turn. Assumes nothing.
 use borrow.Author.Rules.{rules}
-use Prim.Native.Nat.{ℕ, ◌+◌, ◌*◌, ◌-◌}
+use Prim.Native.Nat.{ℕ, ◌+◌, ◌*◌}
 use native.Mathlib.Omega.{arith}
 use mathlib.Core.Path.{◌≡◌, refl, ◌∙◌}
 use mathlib.Core.List.{List}

@@ -1,7 +1,7 @@
 -- `to_rgba_rows::picture_rows::odd_row` meets its contract. The invariant: where the row is odd, the first k pixels are done. `plain_more` is one
 -- turn: no pixel of an odd row is filtered. Assumes nothing.
 use borrow.Author.Rules.{rules}
-use Prim.Native.Nat.{◌+◌, ◌*◌, ◌-◌}
+use Prim.Native.Nat.{◌+◌, ◌*◌}
 use native.Mathlib.Omega.{arith}
 use mathlib.Core.Path.{refl, ◌∙◌}
 use Rattle.lent.proofs.ByPart.{part_long}

@@ -1,6 +1,6 @@
 -- `to_rgba_rows::picture_rows::smoothed` meets its contract. The invariant: the first 2 i columns are in the arrays, and the first i blocks are marked.
 -- `two_smoothed` is a block. Assumes nothing.
-use Prim.Native.Nat.{◌+◌, ◌-◌, ◌*◌}
+use Prim.Native.Nat.{◌+◌, ◌*◌}
 use native.Mathlib.Omega.{arith}
 use mathlib.Core.Path.{◌≡◌, ap, ◌∙◌}
 use Rattle.lent.specs.Counts.{one}

@@ -1,11 +1,10 @@
 -- `to_rgba_rows::view_rows::shade_lines` meets its contract. The invariant: in the rows below l the columns from k to below k + m are done.
 -- A row's part was lent, written whole and came back, `part_more`.
 -- Assumes nothing.
-use Prim.Native.Nat.{◌+◌, ◌*◌, ◌-◌, ◌≤◌}
+use Prim.Native.Nat.{◌+◌, ◌*◌, ◌≤◌}
 use native.Mathlib.Omega.{arith}
 use mathlib.Core.Path.{refl, ap, ◌∙◌}
 use lib.ListN.{length}
-use Rattle.lent.specs.Paint.{within}
 use Rattle.lent.specs.Pixels.{bytes}
 use Rattle.lent.proofs.ByPart.{part_long}
 use Rattle.lent.proofs.Cells.{row_in}

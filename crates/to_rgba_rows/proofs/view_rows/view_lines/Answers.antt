@@ -2,7 +2,7 @@
 -- column is left, so that a part starts at the first pixel of its chroma. `view_more` is a part.
 -- Assumes nothing.
 use borrow.Author.Rules.{rules}
-use Prim.Native.Nat.{◌*◌, ◌-◌}
+use Prim.Native.Nat.{◌*◌}
 use native.Mathlib.Omega.{arith}
 use mathlib.Core.Path.{refl, ◌∙◌}
 use Rattle.to_rgba_rows.proofs.ViewParts.{columns_none, columns_all, view_more}

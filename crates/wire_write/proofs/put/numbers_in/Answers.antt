@@ -1,6 +1,5 @@
 -- `wire_write::put::numbers_in` meets its contract. The invariant: the first i numbers are painted.
 -- Assumes nothing.
-use Prim.Native.Nat.{◌-◌}
 use native.Mathlib.Omega.{arith}
 use mathlib.Core.Path.{◌≡◌, refl}
 use lib.ListN.{length}
