@@ -1,4 +1,4 @@
--- Text that is put piece by piece: `put_one` is one byte, and `put_more` joins two pieces. Then a byte
+-- Text that is put piece by piece: `put_one` is one byte, and `put_more` joins two pieces; `prefix_len_of_le` counts what is put. Then a byte
 -- in decimal, and the invariant of the loop over triples: what is put and the text of the rest are the whole text. Last, the input
 -- may be cut after a whole number of triples (`text_append`).
 -- Assumes nothing.
@@ -9,8 +9,9 @@ use native.Mathlib.Numerals.{add-one}
 use native.Mathlib.Omega.{arith}
 use borrow.Author.Tests.{lt-ltb, le-ltb}
 use lib.ListN.{length, get_or, set, take, drop, length-append, length-set, drop_of_length-le}
-use lib.Seq.{take-suc-set, drop-cons}
-use Rattle.io.specs.Digits.{hex_digit_ascii}
+use lib.Seq.{take-suc-set, drop-cons, length-take-le}
+use Rattle.std.specs.Counts.{IsPrefixLen}
+use Rattle.colours.specs.Digits.{hex_digit_ascii}
 use Rattle.colours.specs.Text.{decimal_of, line_of, short_of, text_of, Put}
 
 pub put_one : (xs : List ℕ) (i b : ℕ) → i < length xs → Put xs (set xs i b) i (i + 1) (b ∷ [])
@@ -23,6 +24,9 @@ put_more {xs} {ys} {zs} {i} {j} {k} {t} {u} p q =
       next = omega (arith, length-append t u, p.next, q.next);
       size = q.size ∙ p.size;
     }
+
+pub prefix_len_of_le : (n : ℕ) (xs : List ℕ) → n ≤ length xs → IsPrefixLen n xs
+prefix_len_of_le n xs h = (h, sym (length-take-le n xs h))
 
 digit : (d k : ℕ) → d < 10 → d ≡ k → hex_digit_ascii d ≡ 48 + k
 digit d k h e = rw (lt-ltb d 10 h) (omega arith)

@@ -8,7 +8,7 @@
 --   Put              what a function leaves that puts text into a lent buffer
 use Rattle.std.specs.Prelude.{cond, List, [], ◌∷◌, ◌++◌, ◌≡◌, ℕ, ◌+◌, ltb, get_or, length, take}
 use Rattle.colour.specs.Colour.{forward_of, reverse_of}
-use Rattle.io.specs.Digits.{last_digits}
+use Rattle.colours.specs.Digits.{last_digits}
 
 -- "in decimal": as few digits as the byte needs
 unfoldable pub decimal_of : ℕ → List ℕ

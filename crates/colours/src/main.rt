@@ -2,12 +2,15 @@
 // single spaces. A remainder of n = 1 or 2 bytes gives a last line `short n`.
 // Promised: the text that is made of a bufferful is exactly the rule's (`text_of` of specs/Text.antt), and where a bufferful is full, so
 // that the program goes on, the input may be cut after it (`CutAfter`): it is a whole number of triples. So the input may arrive in
-// pieces of any size. A write that fails ends the program.
-ghost use Rattle.std.specs.Prelude.{◌≡◌, true, [], ◌∷◌, ◌+◌, ◌*◌, ◌≤◌, ◌<◌, length, take};
-ghost use Rattle.io.specs.Counts.{IsPrefixLen};
+// pieces of any size. A read or a write that fails ends the program with its error.
+#![tactic(auto)]
+
+ghost use Rattle.std.specs.Prelude.{◌≡◌, true, [], ◌∷◌, ◌+◌, ◌*◌, ◌≤◌, ◌<◌, length, take, IfOk};
+ghost use Rattle.std.specs.Counts.{IsPrefixLen};
 ghost use Rattle.colours.specs.Text.{decimal_of, number_of, line_of, short_of, text_of, CutAfter, Put};
 
-use libc::{STDIN_FILENO, STDOUT_FILENO};
+use std::io;
+use std::io::Read;
 
 // Each function below puts text into `out` at `at` and answers the place after it.
 fn put(out: &mut [u8], at: usize, b: u8) -> usize
@@ -101,23 +104,37 @@ fn full(rgb: &[u8; 3072], n: usize) -> bool
     n == rgb.len()
 }
 
+// Reads until buf is full or the input ends, and answers how many bytes it put at the start of buf.
+fn read_full(input: &mut impl Read, buf: &mut [u8]) -> io::Result<usize>
+    ensures { IfOk result (λ n. IsPrefixLen n buf.new) }
+{
+    let mut done = 0;
+    while done < buf.len() {
+        let n = input.read(&mut buf[done..])?;
+        if n == 0 {
+            break;
+        }
+        done += n;
+    }
+    Ok(done)
+}
+
 // One bufferful, or fewer bytes where the input ends. Answers whether there may be more.
-fn step() -> bool {
+fn step(rt: &HostRuntime) -> io::Result<bool> {
     let mut rgb = [0u8; 3072];
     let mut out = [0u8; 24586];
-    let n = io::read_full(STDIN_FILENO, &mut rgb);
+    let n = read_full(&mut rt.stdin(), &mut rgb)?;
     let k = put_text(&mut out, &rgb[..n]);
-    if !io::write_all(STDOUT_FILENO, &out[..k]) {
-        return false;
-    }
-    full(&rgb, n)
+    rt.write_all(&out[..k])?;
+    Ok(full(&rgb, n))
 }
 
 // A proved loop has to end, and nothing says that the input does. So it counts its turns down, from a number that no run
 // uses up.
-fn main() {
+fn main(rt: HostRuntime) -> io::Result<()> {
     let mut turns = u64::MAX;
-    while turns > 0 && step() {
+    while turns > 0 && step(&rt)? {
         turns -= 1;
     }
+    Ok(())
 }
