@@ -1,6 +1,6 @@
 #!/usr/bin/env python3
 """The program `colours` on whole inputs: what it writes is compared byte for byte with lines worked out here from the
-formulas of the rules, and a write that fails has to end it. Run `rt check colours` first; then run this anywhere.
+formulas of the rules, and a write that fails has to end it with an error. It builds the program first, by `rt run`.
 One line for each case, and last `colours: N cases, 0 wrong`; exit status 1 if any is wrong."""
 import os
 import platform
@@ -14,7 +14,8 @@ import threading
 import time
 
 ROOT = os.path.dirname(os.path.dirname(os.path.abspath(__file__)))
-PROGRAM = os.path.join(ROOT, 'target', 'bin', 'colours')
+CRATE = os.path.join(ROOT, 'crates', 'colours')
+PROGRAM = os.path.join(CRATE, 'out', 'colours')
 MOMENT = 60  # seconds after which a run is killed; the emulator is slow
 
 
@@ -100,7 +101,7 @@ def refused(out, allowed, ignore=False):
     """The program with an input that never ends and an output that takes nothing: it has to stop by itself."""
     before = (lambda: signal.signal(signal.SIGPIPE, signal.SIG_IGN)) if ignore else None
     with open('/dev/zero', 'rb') as zeros:
-        child = subprocess.Popen(COMMAND, stdin=zeros, stdout=out, preexec_fn=before)
+        child = subprocess.Popen(COMMAND, stdin=zeros, stdout=out, stderr=subprocess.DEVNULL, preexec_fn=before)
         watch = threading.Timer(MOMENT, child.kill)
         watch.start()
         ended = child.wait()
@@ -110,14 +111,14 @@ def refused(out, allowed, ignore=False):
 
 def full():
     with open('/dev/full', 'wb') as out:
-        return refused(out, (0,))
+        return refused(out, (1,))
 
 
 def closed(ignore):
     reader, writer = os.pipe()
     os.close(reader)
     with os.fdopen(writer, 'wb') as out:
-        return refused(out, (0,) if ignore else (0, -signal.SIGPIPE), ignore)
+        return refused(out, (1,) if ignore else (1, -signal.SIGPIPE), ignore)
 
 
 def cases():
@@ -141,8 +142,9 @@ def cases():
     yield 'output to a closed pipe, SIGPIPE ignored', lambda: closed(True)
 
 
-if not os.path.exists(PROGRAM):
-    sys.exit(f'colours: {os.path.relpath(PROGRAM, ROOT)} is not there: run `rt check colours` first')
+built = subprocess.run(['rt', 'run'], cwd=CRATE, stdin=subprocess.DEVNULL, stdout=subprocess.DEVNULL, stderr=subprocess.PIPE, text=True)
+if built.returncode or not os.path.exists(PROGRAM):
+    sys.exit(f'{built.stderr}colours: `rt run` in {os.path.relpath(CRATE, ROOT)} built no program')
 COMMAND = command()
 count = wrong = 0
 for name, case in cases():
