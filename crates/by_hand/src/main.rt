@@ -1,10 +1,13 @@
 // The numbers worked by hand that are not marked P (docs/RULES.md, R131 to R134): each is run through the public functions, and the file
 // `stdout` beside src/ was written by hand from the rules.
+#![tactic(auto)]
+
 ghost use Rattle.std.specs.Prelude.{◌≡◌, ◌≤◌, ◌<◌, length};
 
 use layout::{Way, WidthRule};
-use libc::STDOUT_FILENO;
 use picture::Size;
+use std::io;
+use std::io::Print;
 use view::View;
 
 fn wide(x: u8) -> u64
@@ -14,99 +17,93 @@ fn wide(x: u8) -> u64
 }
 
 // A line `filter a s t applied` or `filter a s t kept`: the sum s is that of the samples p, q and r.
-fn filter(a: u8, p: u8, q: u8, r: u8) {
-    io::write_all(STDOUT_FILENO, b"filter ");
-    io::print_decimal(STDOUT_FILENO, wide(a));
-    io::write_all(STDOUT_FILENO, b" ");
-    io::print_decimal(STDOUT_FILENO, wide(p) + wide(q) + wide(r));
-    io::write_all(STDOUT_FILENO, b" ");
+fn filter(rt: &impl Print, a: u8, p: u8, q: u8, r: u8) -> io::Result<()> {
+    print!(rt; "filter {} {} ", wide(a), wide(p) + wide(q) + wide(r))?;
     let samples = [a, p, q, r];
     let undone = colour::filter(colour::Block { samples });
-    io::print_decimal(STDOUT_FILENO, wide(undone.value));
+    print!(rt; "{}", wide(undone.value))?;
     if undone.applied {
-        io::write_all(STDOUT_FILENO, b" applied\n");
+        println!(rt; " applied")
     } else {
-        io::write_all(STDOUT_FILENO, b" kept\n");
+        println!(rt; " kept")
     }
 }
 
 // The bytes of s in hexadecimal, each with a space in front.
-fn bytes(s: &[u8]) {
+fn bytes(rt: &impl Print, s: &[u8]) -> io::Result<()> {
     let mut i = 0;
     while i < s.len() {
-        io::write_all(STDOUT_FILENO, b" ");
-        io::print_hex(STDOUT_FILENO, wide(s[i]), 2);
+        print!(rt; " {:02x}", wide(s[i]))?;
         i += 1;
     }
+    Ok(())
 }
 
 // The form of a payload, in words.
-fn form(data: &[u8]) {
+fn form(rt: &impl Print, data: &[u8]) -> io::Result<()> {
     if annex_b::is_avc_format(data) {
-        io::write_all(STDOUT_FILENO, b": length-prefixed");
+        print!(rt; ": length-prefixed")
     } else {
-        io::write_all(STDOUT_FILENO, b": Annex B");
+        print!(rt; ": Annex B")
     }
 }
 
 // A line `payload bytes: form,` and the bytes that the conversion writes.
-fn unit(data: &[u8]) {
+fn unit(rt: &impl Print, data: &[u8]) -> io::Result<()> {
     let mut out = [0u8; 6];
     let answer = annex_b::avc_to_annex_b_into(data, &mut out);
-    io::write_all(STDOUT_FILENO, b"payload");
-    bytes(data);
-    form(data);
-    io::write_all(STDOUT_FILENO, b",");
+    print!(rt; "payload")?;
+    bytes(rt, data)?;
+    form(rt, data)?;
+    print!(rt; ",")?;
     if answer.count == 6 {
-        bytes(&out);
+        bytes(rt, &out)?;
     }
-    io::write_all(STDOUT_FILENO, b"\n");
+    println!(rt)
 }
 
 // A line on a payload of one unit of n bytes.
-fn first_unit(n: usize)
+fn first_unit(rt: &impl Print, n: usize) -> io::Result<()>
     requires { (256 ≤ n) × (n < 512) }
 {
     let mut data = [0u8; 515];
     data[2] = 1;
     data[3] = (n % 256) as u8;
-    io::write_all(STDOUT_FILENO, b"payload first unit of ");
-    io::print_decimal(STDOUT_FILENO, n as u64);
-    io::write_all(STDOUT_FILENO, b" bytes");
-    form(&data[0..4 + n]);
-    io::write_all(STDOUT_FILENO, b"\n");
+    print!(rt; "payload first unit of {n} bytes")?;
+    form(rt, &data[0..4 + n])?;
+    println!(rt)
 }
 
 // The places of s that are not 0, each with a space in front.
-fn places(s: &[u8]) {
+fn places(rt: &impl Print, s: &[u8]) -> io::Result<()> {
     let mut i = 0;
     while i < s.len() {
         if s[i] != 0 {
-            io::write_all(STDOUT_FILENO, b" ");
-            io::print_decimal(STDOUT_FILENO, i as u64);
+            print!(rt; " {i}")?;
         }
         i += 1;
     }
+    Ok(())
 }
 
 // The rows, of 16 bytes each, whose column `col` is not 0, each with a space in front.
-fn rows(plane: &[u8], col: usize)
+fn rows(rt: &impl Print, plane: &[u8], col: usize) -> io::Result<()>
     requires plane_len { length plane.now ≡ 256 }
     requires col_bound { col < 16 }
 {
     let mut row = 0;
     while row < 16 {
         if plane[16 * row + col] != 0 {
-            io::write_all(STDOUT_FILENO, b" ");
-            io::print_decimal(STDOUT_FILENO, row as u64);
+            print!(rt; " {row}")?;
         }
         row += 1;
     }
+    Ok(())
 }
 
 // A main view of 16x16 ones goes into a 5x5 picture of zeros over one rectangle: the luma columns of row 0, and the luma and chroma rows
 // of column `col`.
-fn rectangle(rect: &[u16], col: usize)
+fn rectangle(rt: &impl Print, rect: &[u16], col: usize) -> io::Result<()>
     requires { col < 16 }
 {
     let mut y = [0u8; 256];
@@ -127,17 +124,17 @@ fn rectangle(rect: &[u16], col: usize)
     apply_main::apply_main_view(
         size, &mut y, &mut u, &mut v, rect, w, &luma, &chroma, &chroma,
     );
-    io::write_all(STDOUT_FILENO, b"luma columns");
-    places(&y[0..16]);
-    io::write_all(STDOUT_FILENO, b", luma rows");
-    rows(&y, col);
-    io::write_all(STDOUT_FILENO, b", chroma rows");
-    rows(&u, col);
-    io::write_all(STDOUT_FILENO, b"\n");
+    print!(rt; "luma columns")?;
+    places(rt, &y[0..16])?;
+    print!(rt; ", luma rows")?;
+    rows(rt, &y, col)?;
+    print!(rt; ", chroma rows")?;
+    rows(rt, &u, col)?;
+    println!(rt)
 }
 
 // An auxiliary view of 16x12 ones, layout V1, goes into a picture of zeros as large, one rectangle covering it: the rows of column 1.
-fn v1_16x12() {
+fn v1_16x12(rt: &impl Print) -> io::Result<()> {
     let mut y = [0u8; 256];
     let mut u = [0u8; 256];
     let mut v = [0u8; 256];
@@ -166,16 +163,16 @@ fn v1_16x12() {
         &chroma,
         &chroma,
     );
-    io::write_all(STDOUT_FILENO, b"V1, view 16x12: U rows");
-    rows(&u, 1);
-    io::write_all(STDOUT_FILENO, b", V rows");
-    rows(&v, 1);
-    io::write_all(STDOUT_FILENO, b"\n");
+    print!(rt; "V1, view 16x12: U rows")?;
+    rows(rt, &u, 1)?;
+    print!(rt; ", V rows")?;
+    rows(rt, &v, 1)?;
+    println!(rt)
 }
 
 // An auxiliary view of ones, layout V2, goes by a rule of its width into a picture of zeros as large, 4 high and at most 48 wide, one
 // rectangle covering it: the columns of row 0.
-fn v2_columns(title: &[u8], rule: WidthRule, width: u16)
+fn v2_columns(rt: &impl Print, title: &[u8], rule: WidthRule, width: u16) -> io::Result<()>
     requires { width ≤ 48 }
 {
     let mut y = [0u8; 768];
@@ -202,30 +199,36 @@ fn v2_columns(title: &[u8], rule: WidthRule, width: u16)
         &chroma,
         &chroma,
     );
-    io::write_all(STDOUT_FILENO, title);
-    io::write_all(STDOUT_FILENO, b": U columns");
-    places(&u[0..lent::round_up_16(width)]);
-    io::write_all(STDOUT_FILENO, b", V columns");
-    places(&v[0..lent::round_up_16(width)]);
-    io::write_all(STDOUT_FILENO, b"\n");
+    rt.write_all(title)?;
+    print!(rt; ": U columns")?;
+    places(rt, &u[0..lent::round_up_16(width)])?;
+    print!(rt; ", V columns")?;
+    places(rt, &v[0..lent::round_up_16(width)])?;
+    println!(rt)
 }
 
-fn main() {
-    filter(30, 40, 40, 40);
-    filter(225, 100, 100, 100);
-    filter(226, 100, 100, 100);
-    filter(90, 90, 90, 90);
+fn main(rt: HostRuntime) -> io::Result<()> {
+    filter(&rt, 30, 40, 40, 40)?;
+    filter(&rt, 225, 100, 100, 100)?;
+    filter(&rt, 226, 100, 100, 100)?;
+    filter(&rt, 90, 90, 90, 90)?;
     let line = [0u8, 0, 0, 2, 0x67, 0x42];
-    unit(&line);
-    first_unit(256);
-    first_unit(511);
-    io::write_all(STDOUT_FILENO, b"rectangle 3 0 5 2: ");
+    unit(&rt, &line)?;
+    first_unit(&rt, 256)?;
+    first_unit(&rt, 511)?;
+    print!(rt; "rectangle 3 0 5 2: ")?;
     let narrow = [3u16, 0, 5, 2];
-    rectangle(&narrow, 3);
-    io::write_all(STDOUT_FILENO, b"rectangle 0 0 2 6: ");
+    rectangle(&rt, &narrow, 3)?;
+    print!(rt; "rectangle 0 0 2 6: ")?;
     let low = [0u16, 0, 2, 6];
-    rectangle(&low, 0);
-    v1_16x12();
-    v2_columns(b"V2, view width 20", WidthRule::To16, 20);
-    v2_columns(b"V2, view width 48, by the 32 rule", WidthRule::To32, 48);
+    rectangle(&rt, &low, 0)?;
+    v1_16x12(&rt)?;
+    v2_columns(&rt, b"V2, view width 20", WidthRule::To16, 20)?;
+    v2_columns(
+        &rt,
+        b"V2, view width 48, by the 32 rule",
+        WidthRule::To32,
+        48,
+    )?;
+    Ok(())
 }
