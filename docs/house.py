@@ -23,7 +23,7 @@ def read_crates():
     for line in open(os.path.join(ROOT, 'crates.txt'), encoding='utf-8'):
         if line.startswith('#'):
             name = line[1:].strip().rstrip('.')
-        crate = re.match(r'([a-z_0-9]+):(.*)', line)
+        crate = re.match(r'([a-z_0-9]+)(?: staticlib)?:(.*)', line)
         if crate:
             needs[crate[1]] = [d for d in crate[2].split() if d not in KIT]
             group[crate[1]] = name

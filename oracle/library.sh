@@ -1,9 +1,9 @@
 #!/usr/bin/env bash
 # Makes oracle/build/libhaythaw.a, the crate `haythaw` for this machine.
 #
-# On x86-64 it has the object of `rt staticlib haythaw`. The kit compiles for x86-64 alone, so on any other machine the module that the
-# kit hands to its compiler is kept and compiled for this machine (module.sh, retarget.py). Beside that object there is one of
-# bind/c/haythaw_text.c, two calls that are C and not proved.
+# On x86-64 it has the object of `rt lib`. For any other machine the module that the kit hands to its compiler for that machine is kept and
+# compiled by the same words, with the marks where jumps may end (module.sh, marks.py), which is what ../dist packs. Beside that object there
+# is one of bind/c/haythaw_text.c, two calls that are C and not proved.
 #
 #   HAYTHAW_LIBRARY=module    goes the second road on x86-64 too
 #   HAYTHAW_MACHINE=aarch64   makes oracle/build/aarch64/libhaythaw.a, for that machine
@@ -39,21 +39,21 @@ state() {
     {
         echo "$road $machine $processor"
         rt version
-        cd "$root" && find crates.txt crates oracle/library.sh oracle/module.sh oracle/retarget.py oracle/calls.c bind/c/test/results.h \
-            bind/c/haythaw.h bind/c/haythaw_text.c -type f -exec sha256sum {} + | sort
+        cd "$root" && find crates.txt crates oracle/library.sh oracle/module.sh oracle/marks.py oracle/calls.c bind/c/test/results.h \
+            bind/c/haythaw.h bind/c/haythaw_text.c -name out -prune -o -type f -exec sha256sum {} + | sort
     } | sha256sum
 }
 
 # The proved object, rt's own or assembled from the module's text, and beside it the two calls that are C.
 from_archive() {
-    keep_module
-    cp "$build/module/libhaythaw.a" "$archive.new"
+    keep_module "$machine" "$processor"
+    cp "$(module_folder "$machine" "$processor")/libhaythaw.a" "$archive.new"
     text_object "$machine" "$place/haythaw_text.o"
     "$tools/llvm-ar" rs "$archive.new" "$place/haythaw_text.o"
 }
 
 from_module() {
-    keep_module
+    keep_module "$machine" "$processor"
     module_text "$machine" "$processor" "$place/haythaw.s"
     assembled "$machine" "$place/haythaw.s" "$place/haythaw.o"
     text_object "$machine" "$place/haythaw_text.o"

@@ -3,9 +3,7 @@
 formulas of the rules, and a write that fails has to end it with an error. It builds the program first, by `rt run`.
 One line for each case, and last `colours: N cases, 0 wrong`; exit status 1 if any is wrong."""
 import os
-import platform
 import random
-import shutil
 import signal
 import subprocess
 import sys
@@ -16,20 +14,12 @@ import time
 ROOT = os.path.dirname(os.path.dirname(os.path.abspath(__file__)))
 CRATE = os.path.join(ROOT, 'crates', 'colours')
 PROGRAM = os.path.join(CRATE, 'out', 'colours')
-MOMENT = 60  # seconds after which a run is killed; the emulator is slow
+MOMENT = 60  # seconds after which a run is killed
 
 
 def command():
-    """The program, or on a machine that is not x86-64 the kit's emulator and loader with it, as `rt` runs it."""
-    if platform.machine() in ('x86_64', 'AMD64'):
-        return [PROGRAM]
-    rt = shutil.which('rt')
-    home = os.environ.get('RATTLE_HOME') or (rt and os.path.dirname(os.path.dirname(os.path.realpath(rt))))
-    if not home:
-        sys.exit('colours: no `rt` on the path, and no RATTLE_HOME: the emulator is not found')
-    tools = os.path.join(home, 'on', platform.machine(), 'toolchain')
-    lib = os.path.join(tools, 'lib')
-    return [os.path.join(tools, 'bin', 'qemu-x86_64'), os.path.join(lib, 'ld-linux-x86-64.so.2'), '--library-path', lib, PROGRAM]
+    """The program, as `rt` makes it for x86-64 alone."""
+    return [PROGRAM]
 
 
 def clamp(x):

@@ -30,11 +30,13 @@ fresh() {
     mkdir -p "$tree/.ci" "$tree/oracle" "$tree/tests" "$tree/bind/c/test" "$tree/crates/haythaw/src" "$bin"
     cp "$root"/.ci/* "$tree/.ci/"
     cp "$root/demo" "$root/dist" "$root/crates.txt" "$tree/"
-    cp "$root"/oracle/{*.sh,retarget.py,calls.c} "$tree/oracle/"
+    cp "$root"/oracle/{*.sh,marks.py,calls.c} "$tree/oracle/"
     cp "$root"/bind/c/haythaw{.h,_text.c} "$tree/bind/c/"
     cp "$root/bind/c/test/results.h" "$tree/bind/c/test/"
     cp "$root/tests/rust.sh" "$tree/tests/"
     : >"$tree/crates/haythaw/src/lib.rt"
+    # shellcheck disable=SC2046 # names of crates, to be split
+    (cd "$tree/crates" && mkdir -p $(sed -n 's/^haythaw[^:]*: *//p' "$root/crates.txt"))
     local one place
     for one in awk basename bash cat chmod cp cut date df dirname du env find grep head id ln mkdir mktemp mv nproc rm sed setpriv sha256sum \
         sh sort tail tee true; do
@@ -45,13 +47,18 @@ fresh() {
     for one in python3 cc cargo git tar gzip; do stand_in "$bin/$one" 'exit 0'; done
     # all that the gate runs, but rust.sh, which is tried itself
     while IFS= read -r one; do stand_in "$tree/$one" "echo 'ran ${one##*/}'"; done < <(grep -oE '\b(tests|docs)/[a-z_]+\.(py|sh)' "$root/.ci/run" | grep -v rust.sh | sort -u)
-    rt_ends 0 '3 passed, 0 failed'
-    chmod 777 "$tree" "$tree/oracle"
+    passes
+    chmod 777 "$tree" "$tree/oracle" "$tree/crates/haythaw"
 }
 
 # rt says its version, and all else as told.
 rt_ends() { # STATUS SAYS [BEFORE]
     stand_in "$bin/rt" "case \$1 in version) cat '$root/.ci/kit'; exit ;; doc) echo /; exit ;; esac" "${3:-}" "echo '$2'" "exit $1"
+}
+
+# rt ci passes, and this is its line on the must-fail edits.
+passes() { # [EDITS]
+    rt_ends 0 '3 passed, 0 failed' "echo 'rt: ok; handles allowed: none; must-fail edits: ${1:-7 refused}; every proof was done in this run'"
 }
 
 runs() { # WORDS...: in the tree, with the path; what it says goes to $said
@@ -93,19 +100,13 @@ for who in gate demo library dist; do
 done
 for one in python3 git tar gzip; do misses dist $one 1 1; done
 misses dist cc 0 0
-misses gate python3 1 1
+for who in gate demo library; do misses $who python3 1 1; done
 misses gate cc 0 1
 misses gate cargo 0 1
 misses demo cc 1 1
 misses library cc 1 1
 misses demo cargo 0 0
 misses library cargo 0 0
-misses demo python3 0 0
-misses library python3 0 0
-fresh
-stand_in "$bin/uname" 'echo aarch64'
-rm "$bin/python3"
-runs .ci/needs demo && check 'demo on Arm without python3' answers 1 1 'there is no command python3:'
 fresh
 rm "$bin/cc"
 HAYTHAW_MACHINE=other runs .ci/needs library && check 'the library for another machine needs no cc' answers 0 0
@@ -126,25 +127,26 @@ fresh
 disk_has 10
 for who in gate demo library dist; do runs .ci/needs $who && check "$who on a full disk" answers 1 2 '10 MB are free for '; done
 runs .ci/needs after && check 'after, on a full disk' answers 1 2 '10 MB are free for '
-disk_has 900
-runs .ci/needs gate && check 'too little for the gate' answers 1 1 '900 MB are free for .*: 1200 are needed'
+disk_has 3000
+runs .ci/needs gate && check 'too little for the gate' answers 1 1 '3000 MB are free for .*: 4000 are needed'
 runs .ci/needs library && check 'enough for the library' answers 0 0
-stand_in "$bin/du" "echo '409600 target'"
-runs .ci/needs gate && check 'with 400 MB from before' answers 0 0
+stand_in "$bin/du" "echo '1126400 crates/haythaw/out'"
+runs .ci/needs gate && check 'with 1100 MB from before' answers 0 0
 
 # What cannot be written to.
 fresh
 temporary=$made/none runs .ci/needs gate && check 'no temporary folder' answers 1 1 'there is no folder .*none'
 if [[ ${#as[@]} -eq 0 ]] || "${as[@]}" "$tree/.ci/needs" --help >/dev/null 2>&1; then
-    mkdir "$tree/target" && chmod 555 "$tree/target"
+    mkdir "$tree/crates/haythaw/out" && chmod 555 "$tree/crates/haythaw/out"
     for who in gate demo library dist after; do
-        runs "${as[@]}" .ci/needs $who && check "$who without target" answers 1 1 'cannot write to .*/target (Permission denied):'
+        runs "${as[@]}" .ci/needs $who && check "$who without out" answers 1 1 'cannot write to .*/haythaw/out (Permission denied):'
     done
-    rmdir "$tree/target"
+    rmdir "$tree/crates/haythaw/out" && chmod 777 "$tree/crates/haythaw"
     chmod 555 "$tree"
     runs "${as[@]}" .ci/needs gate && check 'a closed tree' answers 1 1 'cannot write to [^(]*/tree (Permission denied):'
-    runs "${as[@]}" .ci/needs library && check 'and no target' answers 1 1 'cannot write to .*/tree (Permission denied):'
-    chmod 777 "$tree" && chmod 555 "$made/temporary"
+    chmod 555 "$tree/crates/haythaw"
+    runs "${as[@]}" .ci/needs library && check 'and no out' answers 1 1 'cannot write to .*/crates/haythaw (Permission denied):'
+    chmod 777 "$tree" "$tree/crates/haythaw" && chmod 555 "$made/temporary"
     runs "${as[@]}" .ci/needs demo && check 'a closed temporary folder' answers 1 1 'cannot write to .*/temporary (Permission denied):'
     chmod 777 "$made/temporary"
 else
@@ -164,11 +166,11 @@ runs .ci/needs after log none && check 'a log without them' answers 0 0
 fresh
 rm "$bin/cc"
 runs ./demo && check 'demo without cc' answers 1 1 'there is no command cc:'
-check 'and nothing was made' test ! -e "$tree/demo-out" -a ! -e "$tree/target"
+check 'and nothing was made' test ! -e "$tree/demo-out" -a ! -e "$tree/crates/haythaw/out"
 runs oracle/library.sh && check 'library.sh without cc' answers 1 1 'there is no command cc:'
 rm "$bin/rt"
 runs ./dist && check 'dist without the kit' answers 1 1 'there is no command rt,'
-check 'and nothing was made' test ! -e "$tree/dist-out" -a ! -e "$tree/target"
+check 'and nothing was made' test ! -e "$tree/dist-out" -a ! -e "$tree/crates/haythaw/out"
 fresh
 rm "$bin/python3" "$bin/cc"
 runs .ci/run && check 'the gate without python3' says 2 '^\.ci/run: NO VERDICT: nothing was run'
@@ -208,6 +210,14 @@ over=$(($(grep -E '^ +for one in tests/' "$root/.ci/run" | grep -oE '\b(tests|do
 gate
 runs .ci/run && check 'the gate' says 0 '^3 passed, 0 failed$'
 check 'it left out nothing' test "$(lines '^ran ') $(lines '^not ')" = "$((before + over)) 0"
+for edits in '6 refused, 1 bad' '5 refused, 1 of them only by a limit, 2 bad'; do
+    gate
+    passes "$edits"
+    runs .ci/run && check "the gate: $edits" says 1 '^\.ci/run: FAILED: rt ci: a must-fail edit is bad:'
+done
+gate
+rt_ends 0 '3 passed, 0 failed'
+runs .ci/run && check 'the gate: rt does not say how many edits are bad' says 1 "has no line 'rt: ok'"
 gate
 rm "$bin/cc"
 runs .ci/run && check 'the gate without cc' above 'not run: the library, from C, from Rust and beside the Rust original: there is no C compiler (cc)'

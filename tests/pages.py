@@ -3,7 +3,7 @@
 
 docs/RULES.md numbers every rule; docs/proved/*.md has, for each, what is proved and where:
 
-    | R31 | what is said | colour/specs/Colour.antt: `forwardOf`; colour/src/lib.rt: `forward` |
+    | R31 | what is said | colour/specs/Colour.antt: `forward_of`; colour/src/lib.rt: `forward` |
 
 This fails where a file or a name of such a row is not there (in specs/ and proofs/ a definition or a law, in src/ a function, in
 must-fail/ a wrong program), where a row
@@ -89,8 +89,8 @@ def check_links(root):
 
 
 def check_readme(root):
-    crates = len(re.findall(r'^[a-z_0-9]+:', read(os.path.join(root, 'crates.txt')), re.M))
-    exported = sum(read(path).count('#[no_mangle]') for path in glob.glob(os.path.join(root, 'crates/haythaw/src/*.rt')))
+    crates = len(re.findall(r'^[a-z_0-9]+(?: staticlib)?:', read(os.path.join(root, 'crates.txt')), re.M))
+    exported = sum(read(path).count('#[unsafe(no_mangle)]') for path in glob.glob(os.path.join(root, 'crates/haythaw/src/*.rt')))
     readme = read(os.path.join(root, 'README.md'))
     return [f'README.md does not say "{words}"' for words in (f'{crates} crates', f'{exported} exported functions') if words not in readme]
 
@@ -102,7 +102,7 @@ def check(root):
 
 # An error of each kind: the page, a text of it, what becomes of that text, and what has to be said.
 PLANTED = [
-    ('docs/proved/colour.md', '`forwardOf`', '`forwardsOf`', 'has no `forwardsOf`'),
+    ('docs/proved/colour.md', '`forward_of`', '`forwards_of`', 'has no `forwards_of`'),
     ('docs/proved/colour.md', 'colour/proofs/Floor.antt', 'colour/proofs/Ceiling.antt', 'there is no crates/colour/proofs/Ceiling.antt'),
     ('docs/proved/colour.md', '| R30 |', '| R999 |', 'R999 is no rule'),
     ('docs/proved/colour.md', '| R34 |', '| R35 |', 'no row for R34'),

@@ -8,8 +8,8 @@ root=$(cd "$(dirname "${BASH_SOURCE[0]}")/.." && pwd -P)
 for tool in cargo cc ar git; do
     command -v "$tool" >/dev/null || { echo "not tested: the Rust packages: $tool is not at hand"; exit 0; }
 done
-from=${HAYTHAW_ASSEMBLY:-$root/dist-out/current}
 if [[ -z ${HAYTHAW_ASSEMBLY:-} ]] && command -v rt >/dev/null; then "$root/dist" --unless-made; fi
+from=${HAYTHAW_ASSEMBLY:-$root/dist-out/$(cat "$root/dist-out/current" 2>/dev/null || true)}
 [[ -f $from/src/haythaw_text.c ]] || { echo 'not tested: the Rust packages: there is neither dist-out nor the kit to make it with'; exit 0; }
 
 work=$(mktemp -d)
