@@ -92,7 +92,7 @@ keep_module() { # MACHINE PROCESSOR
     run_rt crates/haythaw rt check
     work=$(mktemp -d)
     make_keeping_kit "$work/kit" "$kept"
-    run_rt crates/haythaw "$work/kit/bin/rt" lib "${how[@]}"
+    progress='' run_rt crates/haythaw "$work/kit/bin/rt" lib "${how[@]}"
     rm -rf "$work"
     [[ -f $kept/words && -f $kept/module ]] || fail "the kit's compiler was not handed a module"
     "$tools/clang" --target="$1-unknown-linux-gnu" -S -emit-llvm -Xclang -emit-llvm-uselists -x ir -O0 -Xclang -disable-llvm-passes \
