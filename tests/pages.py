@@ -7,8 +7,8 @@ docs/RULES.md numbers every rule; docs/proved/*.md has, for each, what is proved
 
 This fails where a file or a name of such a row is not there (in specs/ and proofs/ a definition or a law, in src/ a function, in
 must-fail/ a wrong program), where a row
-or a file of specs/ cites a rule that RULES.md has not, where a rule has no row, where a link of a page leads nowhere, and where README.md
-counts the crates or the exported functions otherwise than they are.
+or a file of specs/ cites a rule that RULES.md has not, where a rule has no row, where a link of a page leads nowhere, where README.md
+counts the crates or the exported functions otherwise than they are, and where a copy of NOTICE is no longer NOTICE.
 
   tests/pages.py               checks the pages
   tests/pages.py --self-test   plants an error of each kind in a copy of the pages: each is noticed
@@ -95,9 +95,15 @@ def check_readme(root):
     return [f'README.md does not say "{words}"' for words in (f'{crates} crates', f'{exported} exported functions') if words not in readme]
 
 
+def check_copies(root):
+    """The Rust crates have NOTICE too, as a file: rt takes no link in the tree."""
+    return [f'{path} is not what NOTICE is' for path in ('bind/rust/NOTICE', 'bind/rust/sys/NOTICE')
+            if os.path.islink(os.path.join(root, path)) or read(os.path.join(root, path)) != read(os.path.join(root, 'NOTICE'))]
+
+
 def check(root):
     said, rows, count = check_proved(root)
-    return said + check_links(root) + check_readme(root), rows, count
+    return said + check_links(root) + check_readme(root) + check_copies(root), rows, count
 
 
 # An error of each kind: the page, a text of it, what becomes of that text, and what has to be said.
@@ -110,6 +116,9 @@ PLANTED = [
     ('docs/proved/view.md', '(../RULES.md)', '(../RULE.md)', 'a link leads nowhere'),
     ('README.md', ' crates', ' krates', 'README.md does not say'),
     ('README.md', ' exported functions', ' functions', 'README.md does not say'),
+    ('bind/rust/NOTICE', 'MIT', 'MIT-0', 'bind/rust/NOTICE is not what NOTICE is'),
+    ('bind/rust/sys/NOTICE', 'Apache', 'Apaches', 'bind/rust/sys/NOTICE is not what NOTICE is'),
+    ('NOTICE', 'MIT', 'MIT-0', 'bind/rust/NOTICE is not what NOTICE is'),
 ]
 
 
@@ -118,7 +127,7 @@ def self_test():
     for page, old, new, expected in PLANTED:
         with tempfile.TemporaryDirectory() as root:
             for part in ('docs', 'crates', 'bind', 'tests', 'oracle', 'strip'):
-                if part == 'docs':
+                if part in ('docs', 'bind'):
                     shutil.copytree(os.path.join(ROOT, part), os.path.join(root, part))
                 else:
                     os.symlink(os.path.join(ROOT, part), os.path.join(root, part))

@@ -10,8 +10,8 @@ mkdir -p "$1"
 to=$(cd "$1" && pwd -P)
 from=${2:-$(dirname "$to")}
 
-# What git has here, but what is for the repository alone; links as what they lead to.
-(cd "$here" && git ls-files -z -- . ':!package.sh' ':!*.gitignore' ':!rustfmt.toml' | xargs -0 cp -L --parents -t "$to")
+# What git has here, but what is for the repository alone.
+(cd "$here" && git ls-files -z -- . ':!package.sh' ':!*.gitignore' ':!rustfmt.toml' | xargs -0 cp --parents -t "$to")
 mkdir -p "$to/sys/assembly"
 for machine in x86_64 aarch64; do
     cp "$from/src/$machine/haythaw.s" "$to/sys/assembly/$machine.s"
