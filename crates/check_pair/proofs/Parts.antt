@@ -4,7 +4,6 @@ use Prim.Native.Nat.{ℕ, ◌*◌, ◌/◌, ◌%◌, ◌<◌, ◌≤◌}
 use native.Mathlib.Omega.{arith}
 use mathlib.Core.Path.{◌≡◌, refl, sym, ap, ◌∙◌, subst}
 use mathlib.Core.Bool.{true, false, ◌&&◌, true≢false}
-use mathlib.Core.Logic.{◌⊎◌, ⊎_elim}
 use mathlib.Core.List.{List}
 use borrow.Author.Tests.{lt-ltb, le-ltb}
 use Rattle.lent.specs.Sizes.{half_up}
@@ -29,7 +28,6 @@ use Rattle.check_pair.specs.declared.Verdict.TheVariants.{Same, Sizes, Wrong}
 use Rattle.check_pair.specs.Number.{sizes_agree}
 use Rattle.check_pair.specs.Verdict.{plane_of, first_in, plane_verdict_of, or_else, view_verdict_of, pair_verdict_of}
 use Rattle.check_pair.specs.Rows.{PlaneWhole, ViewWhole}
-use Rattle.check_pair.specs.contracts.Verdict.{the_type}
 
 -- ---- one plane
 

@@ -17,7 +17,7 @@ use Rattle.rects.specs.Number.{not_fours}
 use Rattle.apply_main.specs.Main.{main_buffers_of}
 use Rattle.apply_auxiliary.specs.Auxiliary.{auxiliary_buffers_of}
 use Rattle.map.specs.Map.{picture_short}
-use Rattle.map_apply.specs.Blocks.{Call, map_after}
+use Rattle.map_apply.specs.Blocks.{map_after}
 use Rattle.map_apply.specs.Blocks.Call.{Main, Auxiliary}
 
 unfoldable pub map_apply_number_of : Size → View → ℕ → ℕ → ℕ → ℕ → ℕ → ℕ → ℕ → ℕ → ℕ

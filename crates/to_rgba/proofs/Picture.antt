@@ -1,7 +1,7 @@
 -- Picture to RGBA: what the code works out is what the size and the rectangle say, and a rectangle that is not empty lies inside the
 -- planes of a call that is not refused; how many samples were filtered, row by row.
 -- Assumes nothing.
-use Prim.Native.Nat.{ℕ, ◌+◌, ◌*◌, ◌-◌, ◌<◌, ◌≤◌, min}
+use Prim.Native.Nat.{ℕ, ◌+◌, ◌*◌, ◌<◌, ◌≤◌, min}
 use native.Mathlib.Nat.{eq-zero-or-pos, mul_comm, mul-zero, zero-mul}
 use native.Mathlib.Omega.{arith}
 use mathlib.Core.Path.{◌≡◌, sym, ap, ◌∙◌}

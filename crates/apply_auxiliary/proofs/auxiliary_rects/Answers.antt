@@ -1,6 +1,5 @@
 -- `apply_auxiliary::auxiliary_rects` meets its contract. The invariant: each plane is painted by what the first i rectangles take.
 -- Assumes nothing.
-use Prim.Native.Nat.{◌-◌}
 use native.Mathlib.Omega.{arith}
 use Rattle.rects.proofs.Rects.{rects_none, rects_more, rects_all}
 use Rattle.apply_auxiliary.specs.Auxiliary.{auxiliary_rule}

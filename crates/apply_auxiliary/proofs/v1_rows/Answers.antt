@@ -1,6 +1,5 @@
 -- `apply_auxiliary::v1_rows` meets its contract. The invariant: each plane is painted by what the area takes in the rows below `row`.
 -- Assumes nothing.
-use Prim.Native.Nat.{◌-◌}
 use Rattle.apply_auxiliary.proofs.Taken.{area_rows_none, area_rows_more, area_rows_all}
 use Rattle.apply_auxiliary.proofs.v1_rows.Goals as goal
 

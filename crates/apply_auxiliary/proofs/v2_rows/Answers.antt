@@ -1,7 +1,7 @@
 -- `apply_auxiliary::v2_rows` meets its contract. The invariant: `row` is even, and each plane is painted by what the area takes in the rows
 -- below it. So the row after it is in the area, too.
 -- Assumes nothing.
-use Prim.Native.Nat.{ℕ, ◌+◌, ◌-◌, ◌<◌}
+use Prim.Native.Nat.{ℕ, ◌+◌, ◌<◌}
 use native.Mathlib.Omega.{arith}
 use mathlib.Core.Path.{◌≡◌}
 use Rattle.apply_auxiliary.proofs.Taken.{area_rows_none, area_rows_more, area_rows_all}

@@ -1,7 +1,6 @@
 -- `map_apply::complete_rects` meets its contract. The invariant: the map is painted, from what it was before all, by what the first i
 -- rectangles take; a block that one of them turned is not 1 any more, so that another one leaves it.
 -- Assumes nothing.
-use Prim.Native.Nat.{◌-◌}
 use native.Mathlib.Omega.{arith}
 use mathlib.Core.Path.{◌∙◌}
 use Rattle.rects.proofs.Rects.{rects_none, rects_more, rects_all}

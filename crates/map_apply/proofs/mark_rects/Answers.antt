@@ -1,6 +1,5 @@
 -- `map_apply::mark_rects` meets its contract. The invariant: the map is painted by what the first i rectangles take.
 -- Assumes nothing.
-use Prim.Native.Nat.{◌-◌}
 use native.Mathlib.Omega.{arith}
 use Rattle.rects.proofs.Rects.{rects_none, rects_more, rects_all}
 use Rattle.map_apply.specs.Boxes.{in_blocks}

@@ -1,7 +1,6 @@
 -- `map_picture::to_rgba` meets its contract: a short map is refused with nothing run; else the call that has no map is run. Where that is refused no
 -- pixel is counted, nor is one in an empty rectangle; any other rectangle lies inside the planes, and its pixels are counted.
 -- Assumes nothing.
-use borrow.Author.Tests.{eqb-true, eqb-false}
 use Prim.Native.Nat.{ℕ}
 use native.Mathlib.Omega.{arith}
 use mathlib.Core.Path.{◌≡◌, sym, ap, ◌∙◌}

@@ -4,7 +4,7 @@ use Prim.Native.Nat.{◌*◌, ◌≤◌}
 use native.Mathlib.Omega.{arith}
 use mathlib.Core.Path.{◌≡◌, sym, ◌∙◌}
 use mathlib.Core.Logic.{⊎_elim}
-use borrow.Author.Tests.{eqb-true, eqb-false}
+use borrow.Author.Tests.{eqb-false}
 use Rattle.picture.proofs.Sizes.{plane_small}
 use Rattle.to_rgba.specs.Picture.{pixels_of}
 use Rattle.to_rgba.proofs.Picture.{counted, numbered, written, filtered_is, rows_fit, empty_unchanged, empty_unfiltered}

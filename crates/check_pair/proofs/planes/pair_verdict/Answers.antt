@@ -1,7 +1,6 @@
 -- `check_pair::planes::pair_verdict` meets its contract: sizes that are not the split's are said first; then the main view's verdict, or else
 -- the auxiliary view's. A check that is not refused has a picture and views that are long enough, and sides that fit 16 bits.
 -- Assumes nothing.
-use borrow.Author.Tests.{not-true, not-false}
 use mathlib.Core.Path.{◌≡◌, sym, ◌∙◌}
 use mathlib.Core.Bool.{true}
 use lib.ListN.{length}

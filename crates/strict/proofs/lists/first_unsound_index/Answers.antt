@@ -1,7 +1,6 @@
 -- `strict::lists::first_unsound_index` meets its contract. The invariant: every rectangle that was passed is sound. So the one at which the loop
 -- stops is the first that is not, and where it does not stop there is none.
 -- Assumes nothing.
-use Prim.Native.Nat.{◌-◌}
 use native.Mathlib.Omega.{arith}
 use borrow.Author.Tests.{eq-eqb, ne_eqb}
 use mathlib.Core.Path.{refl, sym, ap, ◌∙◌}
