@@ -1,5 +1,5 @@
 -- What a split was before V2 had rules: both views of stride by rows, every sample the picture's own, m the maps of its layout. The laws
--- split-v1 and split-16 say that as V1, and as V2 by the 16 rule, it still is.
+-- split_v1 and split_16 say that as V1, and as V2 by the 16 rule, it still is.
 --
 --   main_before stride p q r c           the main view's plane q, at row r and column c
 --   auxiliary_before m stride u v q r c  the auxiliary view's

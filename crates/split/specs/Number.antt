@@ -3,7 +3,7 @@
 --   split_layout_of t z        the layout in which a picture of the size z that is sent this way is split
 --   split_wide_of t z          how wide both views are: W by V2's rule, the stride for V1
 --   too_large W z             5: stride or rows is above 65,535, or W is
---   widest_of t               the widest picture that splits this way, as law large-exactly has it
+--   widest_of t               the widest picture that splits this way, as law large_exactly has it
 --   view_short W z n          6, of one view with planes of the lengths n: a plane is shorter than what would be written
 --   split_number_of t z p m a  the number: 1, 5, 6 or 0; p, m and a are the lengths of the picture's, the main and the auxiliary view's planes
 --   split_answer_of t z n      the answer with the number n: both views are of W by rows, with luma stride W and chroma stride half of it;

@@ -1,4 +1,4 @@
--- A chroma plane of the auxiliary view, as it is written; the law chroma-plane says which planes it is.
+-- A chroma plane of the auxiliary view, as it is written; the law chroma_plane says which planes it is.
 --
 --   chroma_sample t stride own u v first r c    V1: the odd columns of the even rows of the plane `own`; V2: of the odd rows of U and V
 --                            every fourth column from `first` on

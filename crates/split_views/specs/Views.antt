@@ -8,7 +8,7 @@
 --   seen_at stride u v l      the picture's chroma sample at the place l, 128 past the stride
 --   auxiliary_sample t stride u v q r c     the auxiliary view's plane q, at row r and column c: "the same places as above, read backwards",
 --                            so it is the picture's sample at the place that layout's map gives for that spot
---   v2_chroma_sample W stride u v first r c    a chroma row of V2, as it is written; split_views::auxiliary's law chroma-plane says which planes it is
+--   v2_chroma_sample W stride u v first r c    a chroma row of V2, as it is written; split_views::auxiliary's law chroma_plane says which planes it is
 --   Written wide rows s old new    a view of wide by rows that holds s was written over three buffers: every byte of its planes, and
 --                            no other
 use Rattle.std.specs.Prelude.{ℕ, ◌+◌, ◌*◌, ◌/◌, ◌≡◌, List}
