@@ -153,6 +153,17 @@ def is_shape(message):
     return any(s in message for s in SHAPE) or PLACES.search(message) is not None
 
 
+def unread(log, texts):
+    """What a log says of a text that could not be read, where rt calls the edit bad for it: in src/, in specs/ or in a file that it changes."""
+    for line in log.split('\n'):
+        error = re.match(r'(?:\./)?(\S+?):\d+:\d+: error: (?:(`[^`]*`): )?(.*)', line)
+        if error and (error[1] in texts or error[1].startswith(('src/', 'specs/'))):
+            said = re.sub(r'`[^`]*`', '', error[3])
+            if not error[2] or re.search(r'is not in scope|has no field|is no name|operand is missing|expected the end|cannot continue', said):
+                return line[:300]
+    return None
+
+
 def refusals(log, crate_name, texts):
     """What a log refuses: (place, need) and whether it shows the fact's failure or only the shape of a proof. texts are the edit's."""
     found = {}
@@ -492,7 +503,10 @@ def check(root, names=()):
         if not re.search(r'^logic=', log, re.M):
             said.append(f'{label}: it did not reach the prover: {first_error(log)}')
             continue
-        found = refusals(log, name, edited(crate, path))
+        texts = edited(crate, path)
+        if unread(log, texts):
+            said.append(f'{label}: rt calls it a bad edit, for a text that cannot be read: {unread(log, texts)}')
+        found = refusals(log, name, texts)
         for wrong in wrongs:
             for promise in wrong.refuses:
                 if promise not in found:
@@ -638,6 +652,8 @@ PROVED = {  # an edit, and what has to be said of it, after the prover, and noth
         ['greatest: not refused at least returns-then-b-a', 'same: not refused at next returns',
          'at_least_10 returns only because the proof does not fit the code', f'{DOZEN_NAME} returns only because the proof does not fit the code']),
     'no_name': (text_of(NEXT[:4] + ('    a + b',)), ['did not reach the prover']),
+    'no_answer': ('# half_read: ten at most\n# refuses: at_least_10 below\nfile: proofs/at_least_10/Answers.antt\nold: below c = omega arith\n'
+                  'new: below c = omega arithmetic\n', ['bad edit', 'below only because the proof does not fit']),
     'no_text': (text_of(NEXT[:3] + ('    a + 2', '    a + 0')), ['cannot be applied', 'changes None']),
 }
 WRITTEN = {  # the same, from how it is written: whatever the prover would say of it, so it is not asked
@@ -681,7 +697,7 @@ def self_test():
         put('crates/small/must-fail/no_name.edit', PROVED['no_name'][0] + '\n')
         check(root, ['small'])
         renewed = [os.path.basename(path) for path, when in logs().items() if before.get(path) != when]
-        if renewed != ['no_name.log'] or len(before) != 3:
+        if renewed != ['no_name.log'] or len(before) != 4:
             wrong.append(f'kept logs: {len(before)} were there, and {renewed} were made anew')
     for line in wrong:
         print(f'self-test: {line}')
