@@ -10,7 +10,7 @@ An .edit has several wrong programs, since one check refuses them all. Each is w
     new: the line that is wrong
 
 WHERE NEED is the place at which the prover has to refuse it: a function and what is left to prove of it (`units/Cursor/step returns`), or a
-file of laws and a law of it (`Exactly view-3-exactly`). Only what shows the fact counts: what a function returns, a loop's invariant, a
+file of laws and a law of it (`Exactly view_3_exactly`). Only what shows the fact counts: what a function returns, a loop's invariant, a
 law. A refusal at an index, at a length or at what a callee asks shows nothing, nor does a proof whose text no longer fits the code.
 
 rt itself asks only that something of an edit was refused, and keeps nothing of what it said. So this applies every edit to a copy of the
