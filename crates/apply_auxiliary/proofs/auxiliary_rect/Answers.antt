@@ -13,7 +13,7 @@ use Rattle.rects.specs.Rects.{chroma_block_area_of}
 use Rattle.apply_auxiliary_rows.specs.Rows.{auxiliary_source, AreaFits}
 use Rattle.apply_auxiliary.specs.Auxiliary.{auxiliary_in}
 use Rattle.apply_auxiliary.proofs.Taken.{area_none, area_fits}
-use Rattle.apply_auxiliary.proofs.auxiliary_rect.Goals.{After-chroma_block_area-area, Else-area, Start}
+use Rattle.apply_auxiliary.proofs.auxiliary_rect.Goals.{After-chroma_block_area-area, Start}
 use Rattle.apply_auxiliary.proofs.auxiliary_rect.Goals as goal
 
 found : (f : After-chroma_block_area-area)
@@ -26,16 +26,16 @@ asked s k xs x =
     let a = s.args in
     painted (stride_of a.size) (rows_of a.size) (auxiliary_in a.layout a.w x) (auxiliary_source a.layout k a.w a.vy.now a.vu.now a.vv.now) xs
 
--- the area lies in a plane of n bytes
-inside : (c : Else-area) (n : ℕ)
-    → let z = c.args.size in
-    let x = c.chroma_block_area-area.result in
-    rows_of z * stride_of z ≤ n → AreaFits z n x.bottom x.left x.right
-inside c n fits =
-    let a = c.args in
+-- the area lies in a plane of n bytes, where it has a column
+inside : (f : After-chroma_block_area-area) (n : ℕ)
+    → let z = f.args.size in
+    let x = f.chroma_block_area-area.result in
+    rows_of z * stride_of z ≤ n → x.left < x.right → AreaFits z n x.bottom x.left x.right
+inside f n fits some =
+    let a = f.args in
     let q = a.rect in
-    subst (λ (x : Area). AreaFits a.size n x.bottom x.left x.right) (sym ((c.chroma_block_area-area.ensures)))
-    (area_fits a.size n q.left q.top q.right q.bottom fits (subst (λ (x : Area). x.left < x.right) ((c.chroma_block_area-area.ensures)) c.if-area.false))
+    subst (λ (x : Area). AreaFits a.size n x.bottom x.left x.right) (sym f.chroma_block_area-area.ensures)
+    (area_fits a.size n q.left q.top q.right q.bottom fits (subst (λ (x : Area). x.left < x.right) f.chroma_block_area-area.ensures some))
 
 pub returns-then-area : goal.returns-then-area
 returns-then-area c =
@@ -52,8 +52,8 @@ even_rows f = rw (found f) (omega arith, omega arith)
 pub auxiliary_rows-requires : goal.auxiliary_rows-requires
 auxiliary_rows-requires c =
     record {
-      area_fits = inside (goal.at.auxiliary_rows-requires c).Else-area _ c.requires.size_in_bounds;
-      area_fits_2 = inside (goal.at.auxiliary_rows-requires c).Else-area _ c.requires.size_in_bounds_2;
+      area_fits = inside (goal.at.auxiliary_rows-requires c).After-chroma_block_area-area _ c.requires.size_in_bounds c.if-area.false;
+      area_fits_2 = inside (goal.at.auxiliary_rows-requires c).After-chroma_block_area-area _ c.requires.size_in_bounds_2 c.if-area.false;
       top_value = even_rows (goal.at.auxiliary_rows-requires c).After-chroma_block_area-area;
       view_fits = c.requires.view_fits;
     }

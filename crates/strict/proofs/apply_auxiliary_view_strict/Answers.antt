@@ -4,7 +4,6 @@
 use mathlib.Core.Path.{◌≡◌, sym, ◌∙◌}
 use Rattle.strict.specs.Calls.{lent_strict_number_of}
 use Rattle.strict.proofs.Ends.{auxiliary_refused, auxiliary_run}
-use Rattle.strict.proofs.apply_auxiliary_view_strict.Goals.{Else-found-ne0}
 use Rattle.strict.proofs.apply_auxiliary_view_strict.Goals as goal
 
 pub strict_number-found-requires : goal.strict_number-found-requires
@@ -31,11 +30,9 @@ pub shape_of-map : goal.shape_of-map
 shape_of-map c = c.apply_auxiliary_view.auto.map
 
 -- where the call is run the number is 0
-number-0 : (t : Else-found-ne0) → let a = t.args in
-    lent_strict_number_of a.size a.w a.rects.now a.vy.now a.vu.now a.vv.now a.y.now a.u.now a.v.now a.map.now ≡ 0
-number-0 t = sym t.strict_number-found.ensures ∙ t.if-found-ne0.false
-
 pub returns : goal.returns
 returns c =
     let a = c.args in
-    auxiliary_run a.size a.w a.rects.now a.vy.now a.vu.now a.vv.now a.y.now a.u.now a.v.now a.map.now a.layout (number-0 (goal.at.returns c).Else-found-ne0) c.apply_auxiliary_view.ensures
+    let number-0 : lent_strict_number_of a.size a.w a.rects.now a.vy.now a.vu.now a.vv.now a.y.now a.u.now a.v.now a.map.now ≡ 0 =
+    sym c.strict_number-found.ensures ∙ c.if-found-ne0.false in
+    auxiliary_run a.size a.w a.rects.now a.vy.now a.vu.now a.vv.now a.y.now a.u.now a.v.now a.map.now a.layout number-0 c.apply_auxiliary_view.ensures
