@@ -117,33 +117,37 @@ def read_edit(path, label):
 
 
 def function_of(crate, file, old):
-    """The function that a text of src/ stands in, as proofs/ has its path. For a text of a constant it is the one that names the constant."""
+    """The function that a text of src/ stands in, as proofs/ has its path. For a text of a constant or a static it is the one that names it, or that
+    names the field of a static that is the constant."""
     text = open(os.path.join(crate, file), encoding='utf-8').read()
     at = text.find(old)
     last = item_before(text, at + len(old))
     if at < 0 or not last:
         return None
-    return function_naming(crate, last[3]) if last[2] == 'const' else path_of(file, text, last)
+    if last[2] == 'fn':
+        return path_of(file, text, last)
+    field = re.fullmatch(r' *(\w+): [A-Z_]+,', old)
+    return function_naming(crate, rf'{last[3]}\.{field[1]}' if field else last[3])
 
 
 def item_before(text, end):
-    """The last function or constant of a source that begins before a place in it."""
-    items = r'^( *)(?:pub )?(?:extern "C" )?(fn|const) (\w+)'
+    """The last function, constant or static of a source that begins before a place in it."""
+    items = r'^( *)(?:pub )?(?:extern "C" )?(fn|const|static) (\w+)'
     return next((m for m in reversed([*re.finditer(items, text, re.M)]) if m.start() <= end), None)
 
 
 def path_of(file, text, item):
     module = [] if os.path.basename(file) in ('lib.rt', 'main.rt') else [os.path.basename(file)[:-3]]
-    owner = [m[1] for m in re.finditer(r'^impl (\w+)', text[:item.start()], re.M)][-1:] if item[1] else []
+    owner = [m[1] for m in re.finditer(r'^impl(?:<[^>]*>)? (\w+)', text[:item.start()], re.M)][-1:] if item[1] else []
     return '/'.join(module + owner + [item[3]])
 
 
 def function_naming(crate, constant):
-    """The function that names a constant, if there is just one such line in the crate."""
+    """The function that names a constant or a static, if there is just one such line in the crate."""
     lines = []
     for path in sorted(glob.glob(os.path.join(crate, 'src', '*.rt'))):
         file = os.path.relpath(path, crate)
-        uses = re.findall(r'^(?!.*\bconst ).*\b' + constant + r'\b.*$', open(path, encoding='utf-8').read(), re.M)
+        uses = re.findall(r'^(?!.*\b(?:const|static) ).*\b' + constant + r'\b.*$', open(path, encoding='utf-8').read(), re.M)
         lines += [(file, line) for line in uses if not line.lstrip().startswith('//')]
     return function_of(crate, *lines[0]) if len(lines) == 1 else None
 

@@ -11,16 +11,19 @@
 pub mod one; // one way's calls
 
 ghost use Rattle.std.specs.Prelude.{◌≡◌};
+ghost use Rattle.lent.specs.Refused.{number_in};
 ghost use Rattle.split.specs.Split.{at_entry, at_exit, split_number_of, planes};
 ghost use Rattle.agree_law.specs.Through.{first_of, earlier_number_of};
 ghost use Rattle.agree_law.specs.Both.{BothOutcome};
 
 use layout::Way;
+use lent::Answer;
+use lent::refused::Refusal;
 use picture::Size;
 use split::PlaneLengths;
 
-// The first number that a step of both walks would give: the second earlier picture's is found before the first is written.
-fn both_number(
+// Whether a step of both walks would be refused, and the first reason: the second earlier picture's is found before the first is written.
+fn check(
     one: Way,
     other: Way,
     size: Size,
@@ -32,15 +35,12 @@ fn both_number(
     second: PlaneLengths,
     second_nk: usize,
     nr: usize,
-) -> u32
-    ensures { result ≡ first_of (first_of (split_number_of one size from main auxiliary) (earlier_number_of size first first_nk nr))
+) -> Result<(), Refusal>
+    ensures { number_in result ≡ first_of (first_of (split_number_of one size from main auxiliary) (earlier_number_of size first first_nk nr))
         (first_of (split_number_of other size from main auxiliary) (earlier_number_of size second second_nk nr)) }
 {
-    let number = crate::one::through_number(one, size, from, main, auxiliary, first, first_nk, nr);
-    if number != 0 {
-        return number;
-    }
-    crate::one::through_number(other, size, from, main, auxiliary, second, second_nk, nr)
+    crate::one::check(one, size, from, main, auxiliary, first, first_nk, nr)?;
+    crate::one::check(other, size, from, main, auxiliary, second, second_nk, nr)
 }
 
 // Sent one way onto the first earlier picture, then the other way onto the second, over one list, each with its map. The views' six buffers
@@ -67,7 +67,7 @@ pub fn both(
     second_u: &mut [u8],
     second_v: &mut [u8],
     second_map: &mut [u8],
-) -> lent::Answer
+) -> Answer
     ensures { BothOutcome one other size rects.now (planes y.now u.now v.now)
         (at_entry main_y main_u main_v) (at_entry auxiliary_y auxiliary_u auxiliary_v)
         (at_entry first_y first_u first_v) first_map.old
@@ -76,32 +76,12 @@ pub fn both(
         (at_exit first_y first_u first_v) first_map.new
         (at_exit second_y second_u second_v) second_map.new }
 {
-    let from = PlaneLengths {
-        y: y.len(),
-        u: u.len(),
-        v: v.len(),
-    };
-    let main = PlaneLengths {
-        y: main_y.len(),
-        u: main_u.len(),
-        v: main_v.len(),
-    };
-    let auxiliary = PlaneLengths {
-        y: auxiliary_y.len(),
-        u: auxiliary_u.len(),
-        v: auxiliary_v.len(),
-    };
-    let first = PlaneLengths {
-        y: first_y.len(),
-        u: first_u.len(),
-        v: first_v.len(),
-    };
-    let second = PlaneLengths {
-        y: second_y.len(),
-        u: second_u.len(),
-        v: second_v.len(),
-    };
-    let number = both_number(
+    let from = PlaneLengths::of(y, u, v);
+    let main = PlaneLengths::of(main_y, main_u, main_v);
+    let auxiliary = PlaneLengths::of(auxiliary_y, auxiliary_u, auxiliary_v);
+    let first = PlaneLengths::of(first_y, first_u, first_v);
+    let second = PlaneLengths::of(second_y, second_u, second_v);
+    let checked = check(
         one,
         other,
         size,
@@ -114,8 +94,8 @@ pub fn both(
         second_map.len(),
         rects.len(),
     );
-    if number != 0 {
-        return lent::Answer { number, count: 0 };
+    if let Err(refusal) = checked {
+        return Answer::refused(refusal);
     }
     crate::one::through(
         one,

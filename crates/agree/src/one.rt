@@ -6,33 +6,36 @@
 // it writes anything; a refusal changes no byte. Number and every lent byte are equations (agree_law/specs/Through.antt), and 0 comes with
 // the theorem.
 ghost use Rattle.std.specs.Prelude.{◌≡◌};
+ghost use Rattle.lent.specs.Refused.{number_in};
 ghost use Rattle.split.specs.Split.{at_entry, at_exit, split_number_of, planes};
 ghost use Rattle.agree_law.specs.Through.{view_in, first_of, earlier_number_of, ThroughOutcome};
 
 use layout::Way;
+use lent::Answer;
+use lent::refused::Refusal;
 use picture::Size;
 use split::PlaneLengths;
 use view::View;
 
 // What the apply calls can refuse: 1, which covers the map, its length being nk, or 7. The views of a split are neither narrow nor short, so
 // 3 and 4 cannot arise.
-fn earlier_number(size: Size, earlier: PlaneLengths, nk: usize, nr: usize) -> u32
-    ensures { result ≡ earlier_number_of size earlier nk nr }
+fn check_earlier(size: Size, earlier: PlaneLengths, nk: usize, nr: usize) -> Result<(), Refusal>
+    ensures { number_in result ≡ earlier_number_of size earlier nk nr }
 {
     if picture::planes_short(size, earlier.y, earlier.u, earlier.v) {
-        return 1;
+        return Err(Refusal::PictureShort);
     }
     if map::map_short(size, nk) {
-        return 1;
+        return Err(Refusal::PictureShort);
     }
     if nr % 4 != 0 {
-        return 7;
+        return Err(Refusal::ListUneven);
     }
-    0
+    Ok(())
 }
 
-// The first number that a step would give: the split, or an apply call.
-pub fn through_number(
+// Whether a step would be refused, and the first reason: the split's, or an apply call's.
+pub fn check(
     way: Way,
     size: Size,
     from: PlaneLengths,
@@ -41,14 +44,11 @@ pub fn through_number(
     earlier: PlaneLengths,
     nk: usize,
     nr: usize,
-) -> u32
-    ensures { result ≡ first_of (split_number_of way size from main auxiliary) (earlier_number_of size earlier nk nr) }
+) -> Result<(), Refusal>
+    ensures { number_in result ≡ first_of (split_number_of way size from main auxiliary) (earlier_number_of size earlier nk nr) }
 {
-    let number = split::split_number(way, size, from, main, auxiliary);
-    if number != 0 {
-        return number;
-    }
-    earlier_number(size, earlier, nk, nr)
+    split::check(way, size, from, main, auxiliary)?;
+    check_earlier(size, earlier, nk, nr)
 }
 
 // The size of both views, as a split answers it.
@@ -82,32 +82,16 @@ pub fn through(
     qu: &mut [u8],
     qv: &mut [u8],
     q_map: &mut [u8],
-) -> lent::Answer
+) -> Answer
     ensures { ThroughOutcome way size rects.now (planes y.now u.now v.now)
         (at_entry main_y main_u main_v) (at_entry auxiliary_y auxiliary_u auxiliary_v) (at_entry qy qu qv) q_map.old result
         (at_exit main_y main_u main_v) (at_exit auxiliary_y auxiliary_u auxiliary_v) (at_exit qy qu qv) q_map.new }
 {
-    let from = PlaneLengths {
-        y: y.len(),
-        u: u.len(),
-        v: v.len(),
-    };
-    let main = PlaneLengths {
-        y: main_y.len(),
-        u: main_u.len(),
-        v: main_v.len(),
-    };
-    let auxiliary = PlaneLengths {
-        y: auxiliary_y.len(),
-        u: auxiliary_u.len(),
-        v: auxiliary_v.len(),
-    };
-    let earlier = PlaneLengths {
-        y: qy.len(),
-        u: qu.len(),
-        v: qv.len(),
-    };
-    let number = through_number(
+    let from = PlaneLengths::of(y, u, v);
+    let main = PlaneLengths::of(main_y, main_u, main_v);
+    let auxiliary = PlaneLengths::of(auxiliary_y, auxiliary_u, auxiliary_v);
+    let earlier = PlaneLengths::of(qy, qu, qv);
+    let checked = check(
         way,
         size,
         from,
@@ -117,8 +101,8 @@ pub fn through(
         q_map.len(),
         rects.len(),
     );
-    if number != 0 {
-        return lent::Answer { number, count: 0 };
+    if let Err(refusal) = checked {
+        return Answer::refused(refusal);
     }
     let views = split::split(
         way,

@@ -8,10 +8,10 @@ use mathlib.Core.List.{List, [], ◌∷◌}
 use mathlib.Core.Logic.{◌↔◌}
 use lib.Dec.{ltb, eqb}
 use lib.ListN.{length, get_or}
-use borrow.Author.Tests.{lt-ltb, le-ltb, ltb-true, eq-eqb, not-true}
+use borrow.Author.Tests.{lt-ltb, ltb-true, eq-eqb, not-true}
 use Rattle.lent.proofs.Bools.{both, both_left, both_right, never_true}
 use Rattle.annex_b.specs.Units.{unit_length_of}
-use Rattle.annex_b.specs.Format.{start_code, starts_with_of, made_of_units_of, Made, is_avc_format_of}
+use Rattle.annex_b.specs.Format.{start_code, starts_with_of, Made, is_avc_format_of}
 use Rattle.annex_b.proofs.Made.{made_exactly}
 
 module _ (s : List ℕ) where
@@ -35,24 +35,6 @@ module _ (s : List ℕ) where
             (both (some && not short) _ (both some _ (lt-ltb 0 (length s) h.0) (ap not h.1)) (ap not h.2))
             ((made_exactly s).1 h.3),
       )
-
-  -- the four answers, in the order of the tests
-  module _ (more : 0 < length s) where
-    pub format_short : starts_with_of (0 ∷ 0 ∷ 1 ∷ []) s ≡ true → false ≡ is_avc_format_of s
-    unfolding is_avc_format_of
-    format_short e = sym (λ i. lt-ltb 0 (length s) more i && not (e i) && not (starts_with_of start_code s) && made_of_units_of s)
-
-    pub format_long : starts_with_of (0 ∷ 0 ∷ 1 ∷ []) s ≡ false → starts_with_of start_code s ≡ true → false ≡ is_avc_format_of s
-    unfolding is_avc_format_of
-    format_long e f = sym (λ i. lt-ltb 0 (length s) more i && not (e i) && not (f i) && made_of_units_of s)
-
-    pub format_units : starts_with_of (0 ∷ 0 ∷ 1 ∷ []) s ≡ false → starts_with_of start_code s ≡ false → made_of_units_of s ≡ is_avc_format_of s
-    unfolding is_avc_format_of
-    format_units e f = sym (λ i. lt-ltb 0 (length s) more i && not (e i) && not (f i) && made_of_units_of s)
-
-  pub format_empty : length s ≤ 0 → false ≡ is_avc_format_of s
-  unfolding is_avc_format_of
-  format_empty none = sym (λ i. le-ltb 0 (length s) none i && not (starts_with_of (0 ∷ 0 ∷ 1 ∷ []) s) && not (starts_with_of start_code s) && made_of_units_of s)
 
   pub is_avc_format_unique : (r q : Bool) → r ≡ is_avc_format_of s → q ≡ is_avc_format_of s → r ≡ q
   is_avc_format_unique r q x y = x ∙ sym y

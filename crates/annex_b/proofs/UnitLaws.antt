@@ -12,9 +12,8 @@ use lib.Seq.{length-take-le}
 use borrow.Author.Tests.{le-leb, leb-true}
 use Rattle.lent.proofs.Bools.{both, both_right, never_true, cond-true, cond-false}
 use Rattle.annex_b.specs.Units.{unit_length_of, unit_end, unit_at, Values, a_unit, no_unit, values_of, step_of, units_in, units_from}
-use Rattle.annex_b.specs.declared.units.Cursor.{Cursor}
-use Rattle.annex_b.specs.declared.units.Step.{Step}
-use Rattle.annex_b.specs.declared.units.Step.TheVariants.{Whole, Stop}
+use Rattle.std.specs.Prelude.{Option, Some, None}
+use Rattle.annex_b.specs.declared.units.Unit.{Unit}
 
 -- a whole unit stands at `at`: its bytes are those from a to e, and x is the position past it
 pub record Found (s : List ℕ) (at a e x : ℕ) : Type 0 where
@@ -37,31 +36,21 @@ unit_at_none s at h = never_true (unit_at s at) (λ p. let f = unit_at_facts s a
 
 -- ---- what a step answers
 
-pub step_at : (s : List ℕ) (at e : ℕ) → e ≡ unit_end s at → e ≤ length s → a_unit (at + 4) e e ≡ step_of s at
-unfolding step_of
-step_at s at e is h =
-    (λ i. a_unit (at + 4) (is i) (is i))
-    ∙ sym (cond-true (unit_at s at) _ _ (unit_at_holds s at (omega arith)))
-
-pub step_none : (s : List ℕ) (at : ℕ) → length s < unit_end s at → no_unit ≡ step_of s at
-unfolding step_of
-step_none s at h = sym (cond-false (unit_at s at) _ _ (unit_at_none s at h))
-
-module _ (s : List ℕ) (at : ℕ) {r : Step} (says : values_of r ≡ step_of s at) where
-  pub found : {a e : ℕ} {c : Cursor} → r ≡ Whole a e c → Found s at a e c.at
+module _ (s : List ℕ) (at : ℕ) {r : Option Unit} (says : values_of r ≡ step_of s at) where
+  pub found : {u : Unit} → r ≡ Some u → Found s at u.start u.end u.next.at
   unfolding step_of
-  found {a} {e} {c} p = go (unit_at s at) refl (sym (ap values_of p) ∙ says)
+  found {u} p = go (unit_at s at) refl (sym (ap values_of p) ∙ says)
     where
-      go : (t : Bool) → unit_at s at ≡ t → a_unit a e c.at ≡ cond t (a_unit (at + 4) (unit_end s at) (unit_end s at)) no_unit → Found s at a e c.at
+      go : (t : Bool) → unit_at s at ≡ t → a_unit u.start u.end u.next.at ≡ cond t (a_unit (at + 4) (unit_end s at) (unit_end s at)) no_unit → Found s at u.start u.end u.next.at
       go true h q =
           let f = unit_at_facts s at h in
-          let i : a ≡ at + 4 = ap (λ (v : Values). v.start) q in
-          let j : e ≡ unit_end s at = ap (λ (v : Values). v.end) q in
-          let k : c.at ≡ unit_end s at = ap (λ (v : Values). v.next) q in
+          let i : u.start ≡ at + 4 = ap (λ (v : Values). v.start) q in
+          let j : u.end ≡ unit_end s at = ap (λ (v : Values). v.end) q in
+          let k : u.next.at ≡ unit_end s at = ap (λ (v : Values). v.next) q in
           record { starts = i; ends = j; moves = k ∙ sym j; within = omega arith }
       go false h q = absurd (true≢false (ap (λ (v : Values). v.found) q))
 
-  pub found_none : r ≡ Stop → unit_at s at ≡ false
+  pub found_none : r ≡ None → unit_at s at ≡ false
   unfolding step_of
   found_none p = go (unit_at s at) (sym (ap values_of p) ∙ says)
     where
@@ -70,13 +59,13 @@ module _ (s : List ℕ) (at : ℕ) {r : Step} (says : values_of r ≡ step_of s 
       go false q = refl
 
 -- a step is known by its values
-pub values_unique : (r q : Step) → values_of r ≡ values_of q → r ≡ q
-values_unique (Whole a e c) (Whole b f d) p = λ i. Whole (p i).start (p i).end (record { at = (p i).next })
-values_unique (Whole a e c) Stop p = absurd (true≢false (ap (λ (v : Values). v.found) p))
-values_unique Stop (Whole b f d) p = absurd (false≢true (ap (λ (v : Values). v.found) p))
-values_unique Stop Stop p = refl
+pub values_unique : (r q : Option Unit) → values_of r ≡ values_of q → r ≡ q
+values_unique (Some u) (Some v) p = λ i. Some (record { start = (p i).start; end = (p i).end; next = record { at = (p i).next } })
+values_unique (Some u) None p = absurd (true≢false (ap (λ (v : Values). v.found) p))
+values_unique None (Some v) p = absurd (false≢true (ap (λ (v : Values). v.found) p))
+values_unique None None p = refl
 
-pub step_unique : (s : List ℕ) (at : ℕ) (r q : Step) → values_of r ≡ step_of s at → values_of q ≡ step_of s at → r ≡ q
+pub step_unique : (s : List ℕ) (at : ℕ) (r q : Option Unit) → values_of r ≡ step_of s at → values_of q ≡ step_of s at → r ≡ q
 step_unique s at r q x y = values_unique r q (x ∙ sym y)
 
 -- ---- from unit to unit

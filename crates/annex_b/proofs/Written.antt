@@ -30,15 +30,6 @@ part_is_sets l ys a k e h =
     ∙ sym (append_assoc (take a l) ys (drop (a + length ys) l))
     ∙ sym (sets-eq ys l a (omega arith))
 
--- four stores over four bytes leave nothing of them
-pub four_stores : (l : List ℕ) → length l ≡ 4 → sets l 0 start_code ≡ start_code
-four_stores [] h = absurd (omega arith)
-four_stores (a ∷ []) h = absurd (omega arith)
-four_stores (a ∷ b ∷ []) h = absurd (omega arith)
-four_stores (a ∷ b ∷ c ∷ []) h = absurd (omega arith)
-four_stores (a ∷ b ∷ c ∷ d ∷ []) h = refl
-four_stores (a ∷ b ∷ c ∷ d ∷ e ∷ l) h = absurd (omega arith)
-
 -- a start code and a unit, each a part that has come back
 pub put_parts : (l xs ys us : List ℕ) (at e : ℕ) → at + 4 ≤ e → e ≤ length l → xs ≡ start_code → ys ≡ us → length us ≡ e - (at + 4)
     → put_mid (at + 4) (e - (at + 4)) (put_mid at (at + 4 - at) l xs) ys ≡ sets l at (start_code ++ us)

@@ -9,9 +9,8 @@
 --   units_from s at      the bytes of each unit from a position on, until the stop. It recurses by a bound on their number, which two laws of
 --                       proofs/UnitLaws.antt take away: where a whole unit stands they are that unit and the units from its end on
 --                       (`units_more`), and where none stands there are none (`units_none`)
-use Rattle.std.specs.Prelude.{ℕ, zero, suc, ◌+◌, ◌*◌, ◌-◌, Bool, true, false, cond, ◌&&◌, List, [], ◌∷◌, leb, length, get_or, take, drop}
-use Rattle.annex_b.specs.declared.units.Step.{Step}
-use Rattle.annex_b.specs.declared.units.Step.TheVariants.{Whole, Stop}
+use Rattle.std.specs.Prelude.{ℕ, zero, suc, ◌+◌, ◌*◌, ◌-◌, Bool, true, false, cond, ◌&&◌, List, [], ◌∷◌, leb, length, get_or, take, drop, Option, Some, None}
+use Rattle.annex_b.specs.declared.units.Unit.{Unit}
 
 unfoldable pub unit_length_of : List ℕ → ℕ → ℕ
 unit_length_of s at = get_or s at 0 * 16777216 + get_or s (at + 1) 0 * 65536 + get_or s (at + 2) 0 * 256 + get_or s (at + 3) 0
@@ -36,9 +35,9 @@ a_unit a e next = record { number = 0; found = true; start = a; end = e; next = 
 abbrev pub no_unit : Values
 no_unit = record { number = 0; found = false; start = 0; end = 0; next = 0 }
 
-abbrev pub values_of : Step → Values
-values_of (Whole a e c) = a_unit a e c.at
-values_of Stop = no_unit
+abbrev pub values_of : Option Unit → Values
+values_of (Some u) = a_unit u.start u.end u.next.at
+values_of None = no_unit
 
 unfoldable pub step_of : List ℕ → ℕ → Values
 step_of s at = cond (unit_at s at) (a_unit (at + 4) (unit_end s at) (unit_end s at)) no_unit

@@ -10,61 +10,38 @@ pub mod units; // the units that a payload is made of
 ghost use Rattle.std.specs.Prelude.{◌≡◌, [], ◌∷◌, ◌++◌, ◌+◌, ◌-◌, ◌≤◌, ltb, length, take, drop};
 ghost use Rattle.std.proofs.lemmas.List.Edits.{sets};
 ghost use Rattle.lent.specs.Outcome.{Outcome, answer_of, lent_after};
-ghost use Rattle.annex_b.specs.Format.{start_code, starts_with_of, made_of_units_of, is_avc_format_of};
+ghost use Rattle.annex_b.specs.Format.{start_code, made_of_units_of, is_avc_format_of};
 ghost use Rattle.annex_b.specs.AnnexB.{count_of, annex_b_of, annex_number};
 
-use crate::units::{Cursor, Step};
+use crate::units::Cursor;
+use lent::Answer;
+use lent::refused::Refusal;
 
-// Whether s starts with the bytes of `code`.
-fn starts_with(s: &[u8], code: &[u8]) -> bool
-    ensures { result ≡ starts_with_of code.now s.now }
-{
-    if s.len() < code.len() {
-        return false;
-    }
-    let mut i = 0;
-    while i < code.len() {
-        if s[i] != code[i] {
-            return false;
-        }
-        i += 1;
-    }
-    true
-}
+// What stands in front of a unit in Annex B.
+const START_CODE: [u8; 4] = [0, 0, 0, 1];
 
 // Whether s is units and nothing else, none of them empty.
 fn made_of_units(s: &[u8]) -> bool
     ensures { result ≡ made_of_units_of s.now }
 {
     let mut c = Cursor::new();
-    loop {
-        let step = c.step(s);
-        let Step::Whole { start, end, next } = step else {
-            return c.at == s.len();
-        };
-        if start == end {
+    while let Some(unit) = c.step(s) {
+        if unit.start == unit.end {
             return false; // a length of 0
         }
-        c = next;
+        c = unit.next;
     }
+    c.at == s.len()
 }
 
 // Whether a payload is length-prefixed (the Rust's is_avc_format).
 pub fn is_avc_format(data: &[u8]) -> bool
     ensures { result ≡ is_avc_format_of «data».now }
 {
-    if data.len() == 0 {
-        return false;
-    }
-    let short = [0u8, 0, 1];
-    let long = [0u8, 0, 0, 1];
-    if starts_with(data, &short) {
-        return false;
-    }
-    if starts_with(data, &long) {
-        return false;
-    }
-    made_of_units(data)
+    !data.is_empty()
+        && !data.starts_with(&[0, 0, 1])
+        && !data.starts_with(&START_CODE)
+        && made_of_units(data)
 }
 
 // What the conversion writes, counted: a start code is as long as the length that it replaces, so this is where the units end.
@@ -72,28 +49,10 @@ fn count(s: &[u8]) -> usize
     ensures { result ≡ count_of s.now }
 {
     let mut c = Cursor::new();
-    loop {
-        let step = c.step(s);
-        let Step::Whole {
-            start: _,
-            end: _,
-            next,
-        } = step
-        else {
-            return c.at;
-        };
-        c = next;
+    while let Some(unit) = c.step(s) {
+        c = unit.next;
     }
-}
-
-fn put_start_code(dst: &mut [u8])
-    requires { length dst.old ≡ 4 }
-    ensures { dst.new ≡ start_code }
-{
-    dst[0] = 0;
-    dst[1] = 0;
-    dst[2] = 0;
-    dst[3] = 1;
+    c.at
 }
 
 // A unit stands in the output where it stood in the input.
@@ -102,7 +61,7 @@ fn put_unit(s: &[u8], out: &mut [u8], at: usize, end: usize)
     ensures { out.new ≡ sets out.old at (start_code ++ take (end - (at + 4)) (drop (at + 4) s.now)) }
 {
     let start = at + 4;
-    put_start_code(&mut out[at..start]);
+    out[at..start].copy_from_slice(&START_CODE);
     lent::long::copy(&mut out[start..end], &s[start..end]);
 }
 
@@ -112,48 +71,31 @@ fn annex_b(s: &[u8], out: &mut [u8]) -> usize
     ensures { (result ≡ count_of s.now) × (out.new ≡ annex_b_of s.now out.old) }
 {
     let mut c = Cursor::new();
-    loop {
-        let step = c.step(s);
-        let Step::Whole {
-            start: _,
-            end,
-            next,
-        } = step
-        else {
-            return c.at; // where the units end
-        };
-        let at = c.at;
-        put_unit(s, out, at, end);
-        c = next;
+    while let Some(unit) = c.step(s) {
+        put_unit(s, out, c.at, unit.end);
+        c = unit.next;
     }
+    c.at // where the units end
 }
 
 // Whether an output of n bytes is too short. What is written is never longer than the input, so where the output is as long nothing is
 // counted, and the units are walked once, not twice.
+#[tactic(auto, using(crate::proofs::AnnexB::annex_never_longer))]
 fn short(s: &[u8], n: usize) -> bool
     ensures { result ≡ ltb n (count_of s.now) }
 {
-    if s.len() <= n {
-        return false;
-    }
-    n < count(s)
+    n < s.len() && n < count(s)
 }
 
 // The units of a length-prefixed payload in Annex B (the Rust's avc_to_annex_b_into, into a lent buffer: 6 where it is too short).
-pub fn avc_to_annex_b_into(data: &[u8], out: &mut [u8]) -> lent::Answer
+pub fn avc_to_annex_b_into(data: &[u8], out: &mut [u8]) -> Answer
     ensures { Outcome (answer_of (annex_number «data».now out.old) (count_of «data».now))
         (lent_after (annex_number «data».now out.old) out.old (annex_b_of «data».now out.old) ∷ [])
         result (out.new ∷ []) }
 {
     if short(data, out.len()) {
-        return lent::Answer {
-            number: 6,
-            count: 0,
-        };
+        return Answer::refused(Refusal::OutputShort);
     }
     let n = annex_b(data, out);
-    lent::Answer {
-        number: 0,
-        count: n,
-    }
+    Answer::done(n)
 }

@@ -11,31 +11,21 @@ pub struct Cursor {
     pub at: usize,
 }
 
-// What a step of the cursor finds.
+// A whole unit: its bytes are those from start to end, and next is the cursor past it.
 #[derive(Clone, Copy)]
-pub enum Step {
-    // A whole unit: its bytes are those from start to end, and next is the cursor past it.
-    Whole {
-        start: usize,
-        end: usize,
-        next: Cursor,
-    },
-    // Fewer than 4 bytes, or a unit that runs past the end.
-    Stop,
+pub struct Unit {
+    pub start: usize,
+    pub end: usize,
+    pub next: Cursor,
 }
 
-fn wide(b: u8) -> usize
-    ensures { (result ≡ b) × (result < 256) }
-{
-    b as usize
-}
-
-// The length in front of a unit (the Rust's u32::from_be_bytes).
+// The length in front of a unit.
+#[tactic(auto, unfolding(crate::specs::Units::unit_length_of))]
 fn unit_length(s: &[u8], at: usize) -> usize
     requires { at + 4 ≤ length s.now }
     ensures { (result ≡ unit_length_of s.now at) × (result < 4294967296) }
 {
-    wide(s[at]) * 16777216 + wide(s[at + 1]) * 65536 + wide(s[at + 2]) * 256 + wide(s[at + 3])
+    u32::from_be_bytes([s[at], s[at + 1], s[at + 2], s[at + 3]]) as usize
 }
 
 impl Cursor {
@@ -45,28 +35,25 @@ impl Cursor {
         Cursor { at: 0 }
     }
 
-    // The unit at the cursor. Each test subtracts from the length, so that no sum wraps, wherever the cursor stands.
-    pub fn step(self, s: &[u8]) -> Step
+    // The unit at the cursor, or none: fewer than 4 bytes, or a unit that runs past the end. Each test subtracts from the length, so that
+    // no sum wraps, wherever the cursor stands.
+    #[tactic(auto, unfolding(crate::specs::Units::step_of, crate::specs::Units::unit_at))]
+    pub fn step(self, s: &[u8]) -> Option<Unit>
         ensures { values_of result ≡ step_of s.now self.at }
     {
-        let at = self.at;
-        if s.len() < 4 {
-            return Step::Stop;
+        if s.len() < 4 || s.len() - 4 < self.at {
+            return None;
         }
-        if s.len() - 4 < at {
-            return Step::Stop;
-        }
-        let start = at + 4;
-        let room = s.len() - start;
-        let n = unit_length(s, at);
-        if room < n {
-            return Step::Stop;
+        let start = self.at + 4;
+        let n = unit_length(s, self.at);
+        if s.len() - start < n {
+            return None;
         }
         let end = start + n;
-        Step::Whole {
-            start: start,
-            end: end,
+        Some(Unit {
+            start,
+            end,
             next: Cursor { at: end },
-        }
+        })
     }
 }

@@ -1,14 +1,23 @@
--- How the call ends: refused, with every lent byte as it was; or done, with U and V painted and Y as it was. Assumes nothing.
+-- How the call ends: refused, with every lent byte as it was; or done, with U and V painted and Y as it was. An accepted view gives what
+-- the lent planes give. Assumes nothing.
 use Prim.Native.Nat.{ℕ}
 use mathlib.Core.Path.{◌≡◌, sym, ◌∙◌}
 use mathlib.Core.List.{List, [], ◌∷◌}
+use denote.Ref.{Bor}
 use Rattle.picture.specs.declared.Size.{Size}
 use Rattle.view.specs.declared.View.{View}
+use Rattle.view.specs.declared.frame.Frame.{Frame}
+use Rattle.view.specs.Over.{Over}
+use Rattle.layout.specs.declared.Chroma.{Chroma}
 use Rattle.layout.specs.declared.Chroma.TheVariants.{CU, CV}
 use Rattle.layout.specs.declared.Layout.{Layout}
 use Rattle.lent.proofs.Ends.{answer_none, lent_refused, lent_done}
 use Rattle.rects.specs.Number.{lent_number_of}
 use Rattle.apply_auxiliary.specs.Auxiliary.{auxiliary_after, ApplyAuxiliaryViewOutcome}
+
+pub after_over : (t : Layout) (k : Chroma) (z : Size) (f : Frame) (w : View) (y u v : Bor (List ℕ)) → Over f w y u v → (rects plane : List ℕ)
+    → auxiliary_after t k z f.sizes rects f.y.now f.u.now f.v.now plane ≡ auxiliary_after t k z w rects y.now u.now v.now plane
+after_over t k z f w y u v over rects plane = λ i. auxiliary_after t k z (over.sizes i) rects (over.over_y i).now (over.over_u i).now (over.over_v i).now plane
 
 module _ (t : Layout) (z : Size) (w : View) (rects vy vu vv y u v : List ℕ) where
   abbrev after_u : List ℕ

@@ -1,6 +1,6 @@
 -- What an area takes, as facts, and the loop over its rows: the plane is painted by what the area takes in the rows below the loop's.
 -- Assumes nothing.
-use Prim.Native.Nat.{ℕ, ◌+◌, ◌*◌, ◌<◌, ◌≤◌}
+use Prim.Native.Nat.{ℕ, ◌+◌, ◌<◌, ◌≤◌}
 use native.Mathlib.Omega.{arith}
 use mathlib.Core.Path.{◌≡◌, refl, sym, ap, ◌∙◌, subst}
 use mathlib.Core.Bool.{true}
@@ -11,14 +11,12 @@ use Rattle.lent.proofs.Bools.{never_true, both, both_left, both_right}
 use Rattle.lent.proofs.Painted.{length_painted, painted_none}
 use Rattle.lent.proofs.Rows.{rows_none, rows_more, rows_all}
 use Rattle.lent.proofs.Taken.{box_facts, box_holds, row_part_facts, row_part_holds}
-use Rattle.picture.specs.declared.Size.{Size}
-use Rattle.picture.specs.Sizes.{stride_of, rows_of}
 use Rattle.view.specs.declared.View.{View}
 use Rattle.layout.specs.declared.Layout.{Layout}
 use Rattle.layout.specs.Exists.{fed}
 use Rattle.rects.specs.declared.Area.{Area}
-use Rattle.rects.specs.Rects.{chroma_block_area_of, in_area}
-use Rattle.apply_auxiliary_rows.specs.Rows.{auxiliary_row, AreaFits}
+use Rattle.rects.specs.Rects.{in_area}
+use Rattle.apply_auxiliary_rows.specs.Rows.{auxiliary_row}
 use Rattle.apply_auxiliary.specs.Auxiliary.{auxiliary_in}
 
 module _ (t : Layout) (w : View) (a : Area) where
@@ -50,16 +48,16 @@ module _ (t : Layout) (w : View) (a : Area) where
         (λ c hc e. let f = auxiliary_in_facts row c e in row_part_holds _ row a.left a.right row c refl f.2 f.3 f.4) in
         (omega arith, ap length next ∙ length_painted n m _ s xs, next)
 
+    -- two rows, one after the other
+    pub area_rows_two : {was one ys : List ℕ} (row : ℕ) → AreaRows was row → row + 1 < a.bottom → one ≡ painted n m (auxiliary_row t w row a.left a.right) s was
+        → ys ≡ painted n m (auxiliary_row t w (row + 1) a.left a.right) s one → AreaRows ys (row + 2)
+    area_rows_two row before more first second =
+        let two : row + 1 + 1 ≡ row + 2 = omega arith in
+        rw two at (area_rows_more (row + 1) (area_rows_more row before (omega arith) first) more second)
+
     pub area_rows_all : {ys : List ℕ} (row : ℕ) → AreaRows ys row → a.bottom ≤ row → ys ≡ painted n m (auxiliary_in t w a) s xs
     area_rows_all row done end = done.2 ∙ rows_all n m _ s xs row (λ r c hr hc e. omega (arith, (auxiliary_in_facts r c e).1))
 
     -- no column, so nothing is taken
     pub area_none : a.right ≤ a.left → xs ≡ painted n m (auxiliary_in t w a) s xs
     area_none none = painted_none n m _ s xs (λ r c hr hc. never_true _ (λ e. let f = auxiliary_in_facts r c e in omega arith))
-
--- a widened area lies in the padded planes, and its edges are even
-pub area_fits : (z : Size) (n left top right bottom : ℕ) → rows_of z * stride_of z ≤ n
-    → let a = chroma_block_area_of z left top right bottom in
-    a.left < a.right → AreaFits z n a.bottom a.left a.right
-area_fits z n left top right bottom fits some =
-    record { plane_fits = fits; rows_inside = omega arith; ordered = omega arith; inside = omega arith; even_left = omega arith; even_right = omega arith }

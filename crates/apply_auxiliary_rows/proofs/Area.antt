@@ -1,11 +1,11 @@
 -- The part of a plane's row that a row function lends, and the plane when that part has come back. Assumes nothing.
-use Prim.Native.Nat.{ℕ, ◌+◌, ◌*◌, ◌-◌, ◌/◌, ◌%◌, ◌<◌, ◌≤◌}
+use Prim.Native.Nat.{ℕ, ◌+◌, ◌*◌, ◌-◌, ◌%◌, ◌<◌, ◌≤◌}
 use native.Mathlib.Omega.{arith}
 use mathlib.Core.Path.{◌≡◌, refl, sym, ap, subst, ◌∙◌}
 use mathlib.Core.Bool.{Bool, true}
 use mathlib.Core.List.{List, ◌++◌}
-use lib.ListN.{length, take, drop, length-drop}
-use lib.Seq.{length-take-le}
+use lib.ListN.{length, take, drop}
+use Rattle.std.proofs.lemmas.List.{drop-take, take-take, drop-drop}
 use Rattle.lent.specs.Paint.{paint, painted, row_part}
 use Rattle.lent.proofs.Bools.{same_test}
 use Rattle.lent.proofs.Cells.{row_in}
@@ -13,8 +13,8 @@ use Rattle.lent.proofs.Parts.{painted_row}
 use Rattle.lent.proofs.Taken.{row_part_facts, row_part_holds}
 use Rattle.picture.specs.declared.Size.{Size}
 use Rattle.picture.specs.Sizes.{stride_of, rows_of}
-use Rattle.columns.specs.Fits.{OddsFit, EvensFit}
-use Rattle.apply_auxiliary_rows.specs.Rows.{AreaFits}
+use Rattle.view.specs.declared.Plane.{Plane}
+use Rattle.apply_auxiliary_rows.specs.Rows.{AreaFits, IsRow}
 use Rattle.apply_auxiliary_rows.proofs.Columns.{columns_same}
 
 -- the part `&xs[a..e]`, and xs when it has come back as ys
@@ -23,6 +23,20 @@ part xs a e = take (e - a) (drop a xs)
 
 abbrev pub back_in : List ℕ → ℕ → ℕ → List ℕ → List ℕ
 back_in xs a e ys = take a xs ++ (ys ++ drop (e - a) (drop a xs))
+
+-- a part of a row of the view is a part of its plane
+pub line_part : {p : Plane} {plane line : List ℕ} {r : ℕ} → IsRow p plane r line → (a e b f : ℕ) → a ≤ e → e ≤ p.width → r * p.stride + a ≡ b → r * p.stride + e ≡ f
+    → part line a e ≡ part plane b f
+line_part {p} {plane} {line} {r} row a e b f ordered inside first last =
+    let start : ℕ = r * p.stride in
+    let wide : p.width ≡ a + (p.width - a) = omega arith in
+    let long : e - a ≤ p.width - a = omega arith in
+    let same : e - a ≡ f - b = omega arith in
+    ap (λ (l : List ℕ). take (e - a) (drop a l)) (row.bytes ∙ ap (λ (n : ℕ). take n (drop start plane)) wide)
+    ∙ ap (take (e - a)) (drop-take a (p.width - a) (drop start plane))
+    ∙ take-take (e - a) (p.width - a) (drop a (drop start plane)) long
+    ∙ ap (take (e - a)) (drop-drop a start plane ∙ ap (λ (n : ℕ). drop n plane) first)
+    ∙ ap (λ (n : ℕ). take n (drop b plane)) same
 
 -- a part's places are the row's columns
 row_part_in : (p t : ℕ → Bool) (row left stop j : ℕ) → left + j < stop → p (left + j) ≡ t j → row_part p row left stop row (left + j) ≡ t j
@@ -70,40 +84,13 @@ module _ (z : Size) (xs : List ℕ) (row left right : ℕ) (fits : AreaFits z (l
       is
       ∙ columns_same (stride_of z) (rows_of z) row left xs stop right p q s s f g (λ c e. refl)
 
--- what the row writers ask of the parts
-part_long : (xs : List ℕ) (a e n : ℕ) → a + n ≡ e → e ≤ length xs → length (part xs a e) ≡ n
-part_long xs a e n is fits = length-take-le (e - a) (drop a xs) (simp length-drop (omega arith)) ∙ omega arith
+-- of both planes the columns from left to below `stop` can be lent
+pub record Inside (us vs : List ℕ) (line left stop : ℕ) : Type 0 where
+  pub ordered : left ≤ stop
+  pub in_u : line + stop ≤ length us
+  pub in_v : line + stop ≤ length vs
 
-pub copy_fits : (xs src : List ℕ) (line at left stop : ℕ) → line + stop ≤ length xs → at + stop ≤ length src → left ≤ stop
-    → length (part xs (line + left) (line + stop)) ≡ length (part src (at + left) (at + stop))
-copy_fits xs src line at left stop room seen ordered =
-    part_long xs (line + left) (line + stop) (stop - left) (omega arith) room ∙ sym (part_long src (at + left) (at + stop) (stop - left) (omega arith) seen)
-
--- as many turns are there as are read from the first one on
-turns_room : (left n stop : ℕ) → left % 2 ≡ 0 → n % 2 ≡ 0 → left + n ≡ stop → (left / 2 % 2 + n / 2 + 1) / 2 + left / 4 ≡ (stop / 2 + 1) / 2
-turns_room left n stop e e' is =
-    let sum : left / 2 + n / 2 ≡ stop / 2 = omega arith in
-    let quarter : left / 4 ≡ left / 2 / 2 = omega arith in
-    ap (λ (q : ℕ). (left / 2 % 2 + n / 2 + 1) / 2 + q) quarter ∙ halves (left / 2) (n / 2) ∙ ap (λ (m : ℕ). (m + 1) / 2) sum
-  where
-    halves : (a b : ℕ) → (a % 2 + b + 1) / 2 + a / 2 ≡ (a + b + 1) / 2
-    halves a b = omega arith
-
-module _ (xs : List ℕ) (line left stop : ℕ) (room : line + stop ≤ length xs) (by_two : left % 2 ≡ 0) (to-two : stop % 2 ≡ 0) (ordered : left ≤ stop) where
-  lent_long : length (part xs (line + left) (line + stop)) ≡ stop - left
-  lent_long = part_long xs (line + left) (line + stop) (stop - left) (omega arith) room
-
-  pub odds_fit : (src : List ℕ) (at : ℕ) → at + stop / 2 ≤ length src
-      → OddsFit (length (part xs (line + left) (line + stop))) (length (part src (at + left / 2) (at + stop / 2)))
-  odds_fit src at seen =
-      rw (lent_long, part_long src (at + left / 2) (at + stop / 2) ((stop - left) / 2) (omega arith) seen)
-      record { pairs = omega arith; seen = omega arith }
-
-  pub evens_fit : (u v : List ℕ) (at : ℕ) → at + (stop / 2 + 1) / 2 ≤ length u → at + (stop / 2 + 1) / 2 ≤ length v
-      → EvensFit (length (part xs (line + left) (line + stop))) (length (part u (at + left / 4) (at + (stop / 2 + 1) / 2)))
-      (length (part v (at + left / 4) (at + (stop / 2 + 1) / 2))) (left / 2 % 2)
-  evens_fit u v at in-u in-v =
-      let turns : ℕ = (left / 2 % 2 + (stop - left) / 2 + 1) / 2 in
-      let there : at + left / 4 + turns ≡ at + (stop / 2 + 1) / 2 = omega (arith, turns_room left (stop - left) stop by_two (omega arith) (omega arith)) in
-      rw (lent_long, part_long u (at + left / 4) (at + (stop / 2 + 1) / 2) turns there in-u, part_long v (at + left / 4) (at + (stop / 2 + 1) / 2) turns there in-v)
-      record { pairs = omega arith; first = omega arith; seen_u = omega arith; seen_v = omega arith }
+pub inside : {z : Size} {us vs : List ℕ} (row : ℕ) {left right n : ℕ} (stop : ℕ) → AreaFits z (length us) (row + 1) left right → AreaFits z (length vs) (row + 1) left right
+    → n ≡ stride_of z → left < stop → stop ≤ right → Inside us vs (row * n) left stop
+inside {z} {us} {vs} row {left} {right} {n} stop fits fits' is-stride some below =
+    record { ordered = omega arith; in_u = area_room z us row left right fits n is-stride stop below; in_v = area_room z vs row left right fits' n is-stride stop below }

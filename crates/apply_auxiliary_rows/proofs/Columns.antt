@@ -29,6 +29,9 @@ module _ (w h row left : ℕ) (xs : List ℕ) where
   columns_none right q s never =
       painted_none w h _ s xs (λ r c hr hc. never_true _ (λ e. let f = row_part_facts q row left right r c e in never c f.1 f.2 f.3))
 
+  pub columns_empty : (q : ℕ → Bool) (s : ℕ → ℕ → ℕ) → xs ≡ painted w h (row_part q row left left) s xs
+  columns_empty q s = columns_none left q s (λ c low high e. omega arith)
+
   -- what was written below `stop` is what is to be written below `right`
   pub columns_same : (stop right : ℕ) (q q' : ℕ → Bool) (s s' : ℕ → ℕ → ℕ)
       → ((c : ℕ) → left ≤ c → c < stop → q c ≡ true → (c < right) × (q' c ≡ true))

@@ -7,3 +7,4 @@ pub mod Sources
 pub mod Feeds
 pub mod Limits
 pub mod Written
+pub mod Cut

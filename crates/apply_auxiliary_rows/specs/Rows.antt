@@ -8,12 +8,14 @@
 --   auxiliary_only p t w row left right r c     of those, the columns of the kind p: odd or even
 --   AreaFits z n bottom left right        what a row function asks of its caller: the picture's plane of n bytes is whole, rows below
 --                                        `bottom` and columns from left to below right lie in it, and both edges are even
-use Rattle.std.specs.Prelude.{ℕ, ◌*◌, ◌%◌, ◌≤◌, ◌≡◌, Bool, ◌&&◌, List}
+--   IsRow p plane r line            the bytes `line` are row r of the plane, whose sizes are p
+use Rattle.std.specs.Prelude.{ℕ, ◌*◌, ◌%◌, ◌<◌, ◌≤◌, ◌≡◌, Bool, ◌&&◌, List, take, drop, length}
 use Rattle.lent.specs.Paint.{row_part}
 use Rattle.lent.specs.Samples.{sample}
 use Rattle.picture.specs.declared.Size.{Size}
 use Rattle.picture.specs.Sizes.{stride_of, rows_of}
 use Rattle.view.specs.declared.View.{View}
+use Rattle.view.specs.declared.Plane.{Plane}
 use Rattle.layout.specs.declared.Chroma.{Chroma}
 use Rattle.layout.specs.declared.Layout.{Layout}
 use Rattle.layout.specs.Maps.{Part, PY, PU, PV, Spot, place, maps}
@@ -43,3 +45,8 @@ pub record AreaFits (z : Size) (n bottom left right : ℕ) : Type 0 where
   pub inside : right ≤ stride_of z
   pub even_left : left % 2 ≡ 0
   pub even_right : right % 2 ≡ 0
+
+pub record IsRow (p : Plane) (plane : List ℕ) (r : ℕ) (line : List ℕ) : Type 0 where
+  pub there : r < p.height
+  pub long : length line ≡ p.width
+  pub bytes : line ≡ take p.width (drop (r * p.stride) plane)

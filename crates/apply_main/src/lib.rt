@@ -14,6 +14,7 @@ ghost use Rattle.rects.specs.Rects.{in_area, by};
 ghost use Rattle.apply_main.specs.Main.{main_luma, main_chroma, halved, luma_after, chroma_after, ApplyMainViewOutcome};
 ghost use Rattle.apply_main.specs.Fits.{RectFits};
 
+use lent::Answer;
 use picture::Size;
 use rects::{Area, Rect};
 use view::{Plane, View};
@@ -25,10 +26,8 @@ fn luma_rows(y: &mut [u8], size: Size, area: Area, from: Plane, vy: &[u8])
     ensures { y.new ≡ painted (stride_of size) (rows_of size) (up_to (in_area area) from.height)
         (sample vy.now from.stride) y.old }
 {
-    let mut row = area.top;
-    while row < area.bottom {
+    for row in area.top..area.bottom {
         crate::rows::luma_row(y, size, row, area.left, area.right, from, vy);
-        row += 1;
     }
 }
 
@@ -58,14 +57,13 @@ fn luma_rects(y: &mut [u8], size: Size, rects: &[u16], w: View, vy: &[u8])
     ensures { y.new ≡ luma_after size w rects.now vy.now y.old }
 {
     let count = rects.len() / 4;
-    let mut i = 0;
-    while i < count {
+    for i in 0..count {
         luma_rect(y, size, rects::rect_at(rects, i), w, vy);
-        i += 1;
     }
 }
 
-// The area's rows two at a time, where a row is neither so short nor so long that two at a time are slower. Answers the row that comes next.
+// The area's rows two at a time, where a row is neither so short nor so long that two at a time are slower. Answers the row that comes next: a
+// `while`, since a `for` in steps of two would not say where it ended.
 fn chroma_twos(plane: &mut [u8], size: Size, area: Area, from: Plane, samples: &[u8]) -> usize
     requires main_rows_fit { MainRowsFit size from (length plane.old) (length samples.now)
         area.bottom area.left area.right (half_up area.right) }
@@ -97,10 +95,9 @@ fn chroma_rows(plane: &mut [u8], size: Size, area: Area, from: Plane, samples: &
     ensures { plane.new ≡ painted (stride_of size) (rows_of size) (up_to (in_area area) (2 * from.height))
         (halved samples.now from.stride) plane.old }
 {
-    let mut row = chroma_twos(plane, size, area, from, samples);
-    while row < area.bottom {
+    let next = chroma_twos(plane, size, area, from, samples);
+    for row in next..area.bottom {
         crate::rows::chroma_row(plane, size, row, area.left, area.right, from, samples);
-        row += 1;
     }
 }
 
@@ -124,16 +121,15 @@ fn chroma_rect(plane: &mut [u8], size: Size, rect: Rect, w: View, samples: &[u8]
     }
 }
 
-// What the view's U or V gives in any rectangle of the list.
+// What the view's U or V gives in any rectangle of the list. Apart from `luma_rects`: one function would take what a rectangle gives, and the words
+// that say it, as parameters, and be no plainer.
 fn chroma_rects(plane: &mut [u8], size: Size, rects: &[u16], w: View, samples: &[u8])
     requires { RectFits size (chroma_of w) (length plane.old) (length samples.now) }
     ensures { plane.new ≡ chroma_after size w rects.now samples.now plane.old }
 {
     let count = rects.len() / 4;
-    let mut i = 0;
-    while i < count {
+    for i in 0..count {
         chroma_rect(plane, size, rects::rect_at(rects, i), w, samples);
-        i += 1;
     }
 }
 
@@ -148,23 +144,17 @@ pub fn apply_main_view(
     vy: &[u8],
     vu: &[u8],
     vv: &[u8],
-) -> lent::Answer
+) -> Answer
     ensures { ApplyMainViewOutcome size w rects.now
         vy.now vu.now vv.now y.old u.old v.old
         result (y.new ∷ u.new ∷ v.new ∷ []) }
 {
-    let number = rects::apply_number(size, y.len(), u.len(), v.len(), rects.len(), w, vy, vu, vv);
-    if number != 0 {
-        return lent::Answer {
-            number: number,
-            count: 0,
-        };
+    let checked = rects::check(size, y.len(), u.len(), v.len(), rects.len(), w, vy, vu, vv);
+    if let Err(refusal) = checked {
+        return Answer::refused(refusal);
     }
     luma_rects(y, size, rects, w, vy);
     chroma_rects(u, size, rects, w, vu);
     chroma_rects(v, size, rects, w, vv);
-    lent::Answer {
-        number: 0,
-        count: 0,
-    }
+    Answer::done(0)
 }

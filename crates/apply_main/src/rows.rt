@@ -7,7 +7,7 @@ ghost use Rattle.picture.specs.Sizes.{stride_of, rows_of};
 ghost use Rattle.apply_main.specs.Rows.{halved, MainRowsFit};
 
 use picture::Size;
-use view::{Plane, RowStart};
+use view::Plane;
 
 // Row `row` of Y takes the columns from left to below right of the view's row, where the view has that row.
 pub fn luma_row(
@@ -23,8 +23,7 @@ pub fn luma_row(
     ensures { y.new ≡ painted (stride_of size) (rows_of size)
         (up_to (row_part every row left right) from.height) (sample vy.now from.stride) y.old }
 {
-    let found = view::row_start(vy.len(), from.stride, from.height, row);
-    let RowStart::At(start) = found else {
+    let Some(start) = view::row_start(vy.len(), from.stride, from.height, row) else {
         return;
     };
     let line = row * picture::stride(size);
@@ -50,8 +49,7 @@ pub fn chroma_row(
         (up_to (row_part every row left right) (2 * from.height)) (halved samples.now from.stride)
         plane.old }
 {
-    let found = view::row_start(samples.len(), from.stride, from.height, row / 2);
-    let RowStart::At(start) = found else {
+    let Some(start) = view::row_start(samples.len(), from.stride, from.height, row / 2) else {
         return;
     };
     let line = row * picture::stride(size);
@@ -77,8 +75,7 @@ pub fn chroma_two(
         (painted (stride_of size) (rows_of size)
         (up_to (row_part every row left right) (2 * from.height)) (halved samples.now from.stride) plane.old) }
 {
-    let found = view::row_start(samples.len(), from.stride, from.height, row / 2);
-    let RowStart::At(start) = found else {
+    let Some(start) = view::row_start(samples.len(), from.stride, from.height, row / 2) else {
         return;
     };
     let stride = picture::stride(size);

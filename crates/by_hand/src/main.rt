@@ -10,41 +10,29 @@ use std::io;
 use std::io::Print;
 use view::View;
 
-fn wide(x: u8) -> u64
-    ensures { result < 256 }
-{
-    x as u64
-}
-
 // A line `filter a s t applied` or `filter a s t kept`: the sum s is that of the samples p, q and r.
 fn filter(rt: &impl Print, a: u8, p: u8, q: u8, r: u8) -> io::Result<()> {
-    print!(rt; "filter {} {} ", wide(a), wide(p) + wide(q) + wide(r))?;
+    let sum = u16::from(p) + u16::from(q) + u16::from(r);
     let samples = [a, p, q, r];
     let undone = colour::filter(colour::Block { samples });
-    print!(rt; "{}", wide(undone.value))?;
-    if undone.applied {
-        println!(rt; " applied")
-    } else {
-        println!(rt; " kept")
-    }
+    let how = if undone.applied { "applied" } else { "kept" };
+    println!(rt; "filter {a} {sum} {} {how}", undone.value)
 }
 
 // The bytes of s in hexadecimal, each with a space in front.
 fn bytes(rt: &impl Print, s: &[u8]) -> io::Result<()> {
-    let mut i = 0;
-    while i < s.len() {
-        print!(rt; " {:02x}", wide(s[i]))?;
-        i += 1;
+    for b in s {
+        print!(rt; " {b:02x}")?;
     }
     Ok(())
 }
 
 // The form of a payload, in words.
-fn form(rt: &impl Print, data: &[u8]) -> io::Result<()> {
+fn form(data: &[u8]) -> &'static str {
     if annex_b::is_avc_format(data) {
-        print!(rt; ": length-prefixed")
+        "length-prefixed"
     } else {
-        print!(rt; ": Annex B")
+        "Annex B"
     }
 }
 
@@ -54,8 +42,7 @@ fn unit(rt: &impl Print, data: &[u8]) -> io::Result<()> {
     let answer = annex_b::avc_to_annex_b_into(data, &mut out);
     print!(rt; "payload")?;
     bytes(rt, data)?;
-    form(rt, data)?;
-    print!(rt; ",")?;
+    print!(rt; ": {},", form(data))?;
     if answer.count == 6 {
         bytes(rt, &out)?;
     }
@@ -69,19 +56,15 @@ fn first_unit(rt: &impl Print, n: usize) -> io::Result<()>
     let mut data = [0u8; 515];
     data[2] = 1;
     data[3] = (n % 256) as u8;
-    print!(rt; "payload first unit of {n} bytes")?;
-    form(rt, &data[0..4 + n])?;
-    println!(rt)
+    println!(rt; "payload first unit of {n} bytes: {}", form(&data[..4 + n]))
 }
 
 // The places of s that are not 0, each with a space in front.
 fn places(rt: &impl Print, s: &[u8]) -> io::Result<()> {
-    let mut i = 0;
-    while i < s.len() {
-        if s[i] != 0 {
+    for (i, x) in s.iter().enumerate() {
+        if *x != 0 {
             print!(rt; " {i}")?;
         }
-        i += 1;
     }
     Ok(())
 }
@@ -91,12 +74,10 @@ fn rows(rt: &impl Print, plane: &[u8], col: usize) -> io::Result<()>
     requires plane_len { length plane.now ≡ 256 }
     requires col_bound { col < 16 }
 {
-    let mut row = 0;
-    while row < 16 {
+    for row in 0..16 {
         if plane[16 * row + col] != 0 {
             print!(rt; " {row}")?;
         }
-        row += 1;
     }
     Ok(())
 }
@@ -172,7 +153,7 @@ fn v1_16x12(rt: &impl Print) -> io::Result<()> {
 
 // An auxiliary view of ones, layout V2, goes by a rule of its width into a picture of zeros as large, 4 high and at most 48 wide, one
 // rectangle covering it: the columns of row 0.
-fn v2_columns(rt: &impl Print, title: &[u8], rule: WidthRule, width: u16) -> io::Result<()>
+fn v2_columns(rt: &impl Print, title: &str, rule: WidthRule, width: u16) -> io::Result<()>
     requires { width ≤ 48 }
 {
     let mut y = [0u8; 768];
@@ -199,8 +180,7 @@ fn v2_columns(rt: &impl Print, title: &[u8], rule: WidthRule, width: u16) -> io:
         &chroma,
         &chroma,
     );
-    rt.write_all(title)?;
-    print!(rt; ": U columns")?;
+    print!(rt; "{title}: U columns")?;
     places(rt, &u[0..lent::round_up_16(width)])?;
     print!(rt; ", V columns")?;
     places(rt, &v[0..lent::round_up_16(width)])?;
@@ -212,21 +192,18 @@ fn main(rt: HostRuntime) -> io::Result<()> {
     filter(&rt, 225, 100, 100, 100)?;
     filter(&rt, 226, 100, 100, 100)?;
     filter(&rt, 90, 90, 90, 90)?;
-    let line = [0u8, 0, 0, 2, 0x67, 0x42];
-    unit(&rt, &line)?;
+    unit(&rt, &[0, 0, 0, 2, 0x67, 0x42])?;
     first_unit(&rt, 256)?;
     first_unit(&rt, 511)?;
     print!(rt; "rectangle 3 0 5 2: ")?;
-    let narrow = [3u16, 0, 5, 2];
-    rectangle(&rt, &narrow, 3)?;
+    rectangle(&rt, &[3, 0, 5, 2], 3)?;
     print!(rt; "rectangle 0 0 2 6: ")?;
-    let low = [0u16, 0, 2, 6];
-    rectangle(&rt, &low, 0)?;
+    rectangle(&rt, &[0, 0, 2, 6], 0)?;
     v1_16x12(&rt)?;
-    v2_columns(&rt, b"V2, view width 20", WidthRule::To16, 20)?;
+    v2_columns(&rt, "V2, view width 20", WidthRule::To16, 20)?;
     v2_columns(
         &rt,
-        b"V2, view width 48, by the 32 rule",
+        "V2, view width 48, by the 32 rule",
         WidthRule::To32,
         48,
     )?;

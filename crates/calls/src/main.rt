@@ -4,28 +4,29 @@
 // The file `stdout` beside src/ was written by hand from the rules (docs/RULES.md).
 #![tactic(auto)]
 
-ghost use Rattle.std.specs.Prelude.{◌+◌, ◌≤◌, length};
+ghost use Rattle.std.specs.Prelude.{◌*◌, ◌≤◌, length};
 
 use layout::{Way, WidthRule};
 use picture::Size;
-use std::io;
 use std::io::Print;
+use std::{fmt, io};
 use view::View;
+use wire_read::parts;
 use wire_read::parts::Which;
+use wire_write::StreamInput;
 
-fn text(rt: &impl Print, s: &[u8]) -> io::Result<()> {
-    rt.write_all(s)
-}
+// Bytes as they are printed, between brackets: each is a letter, or a number below 10, which the calls set in a map.
+#[derive(Clone, Copy)]
+struct Part<'a>(&'a [u8]);
 
-fn number(rt: &impl Print, n: u32) -> io::Result<()> {
-    print!(rt; "{n}")
-}
-
-fn part(rt: &impl Print, name: &[u8], s: &[u8]) -> io::Result<()> {
-    text(rt, name)?;
-    text(rt, b" [")?;
-    text(rt, s)?;
-    text(rt, b"]")
+impl fmt::Display for Part<'_> {
+    fn fmt<W: fmt::Write>(&self, f: &mut fmt::Formatter<W>) -> fmt::Result {
+        f.write_char('[')?;
+        for b in self.0 {
+            f.write_char(char::from(if *b < 10 { *b + b'0' } else { *b }))?;
+        }
+        f.write_char(']')
+    }
 }
 
 // A row of each plane of a view of 3x3 whose rows have one byte of padding: the number beside it, and the row.
@@ -38,44 +39,48 @@ fn rows(rt: &impl Print, luma_stride: usize, y: &[u8], row: usize) -> io::Result
     };
     let u = b"jk.lm.";
     let v = b"no.pq.";
-    print!(rt; "rows {row}: ")?;
-    number(rt, view::rows::luma_row_answer(w, y, u, v, row).number)?;
-    part(rt, b" luma", view::rows::luma_row(w, y, u, v, row))?;
-    part(rt, b", U", view::rows::u_row(w, y, u, v, row))?;
-    part(rt, b", V", view::rows::v_row(w, y, u, v, row))?;
-    text(rt, b"\n")
+    println!(rt;
+        "rows {row}: {} luma {}, U {}, V {}",
+        view::rows::luma_row_answer(w, y, u, v, row).number,
+        Part(view::rows::luma_row(w, y, u, v, row)),
+        Part(view::rows::u_row(w, y, u, v, row)),
+        Part(view::rows::v_row(w, y, u, v, row))
+    )
 }
 
 // The parts of one stream of a payload, and the number beside them.
-fn stream(rt: &impl Print, name: &[u8], payload: &[u8], which: Which) -> io::Result<()> {
-    text(rt, name)?;
-    number(rt, wire_read::parts::number(payload))?;
-    part(rt, b" rectangles", wire_read::parts::rects(payload, which))?;
-    part(rt, b", pairs", wire_read::parts::pairs(payload, which))?;
-    part(rt, b", H.264", wire_read::parts::h264(payload, which))?;
-    text(rt, b"\n")
+fn stream(rt: &impl Print, name: &str, payload: &[u8], which: Which) -> io::Result<()> {
+    println!(rt;
+        "{name}: {} rectangles {}, pairs {}, H.264 {}",
+        parts::number(payload),
+        Part(parts::rects(payload, which)),
+        Part(parts::pairs(payload, which)),
+        Part(parts::h264(payload, which))
+    )
 }
 
 fn streams(rt: &impl Print, payload: &[u8]) -> io::Result<()> {
-    stream(rt, b"luma: ", payload, Which::Luma)?;
-    stream(rt, b"chroma: ", payload, Which::Chroma)
+    stream(rt, "luma", payload, Which::Luma)?;
+    stream(rt, "chroma", payload, Which::Chroma)
 }
 
 // A payload of one luma rectangle and no chroma one is written into out and read: its number, and where the chroma's H.264 bytes stand.
 fn write_read(rt: &impl Print, kind: u32, out: &mut [u8]) -> io::Result<()> {
-    let rect = [0x4141u16, 0x4242, 0x4343, 0x4444];
-    let none = [0u16; 0];
-    let read = wire_back::write_read(kind, &rect, b"QY", b"luma", &none, b"", b"chroma", out);
-    text(rt, b"written and read: ")?;
-    number(rt, read.number)?;
+    let luma = StreamInput {
+        rects: &[0x4141, 0x4242, 0x4343, 0x4444],
+        pairs: b"QY",
+        data: b"luma",
+    };
+    let chroma = StreamInput {
+        rects: &[],
+        pairs: b"",
+        data: b"chroma",
+    };
+    let read = wire_back::write_read(kind, luma, chroma, out);
     println!(rt;
-        ", chroma at {}, {} bytes",
-        read.chroma.data, read.chroma.length
+        "written and read: {}, chroma at {}, {} bytes",
+        read.number, read.chroma.data, read.chroma.length
     )
-}
-
-fn wide(n: u16) -> u32 {
-    n as u32
 }
 
 // A payload is read and written into out, by way of a list of one rectangle for each stream: its number, the bytes written, and the first
@@ -84,62 +89,27 @@ fn read_write(rt: &impl Print, payload: &[u8], out: &mut [u8]) -> io::Result<()>
     let mut luma = [0u16; 4];
     let mut chroma = [0u16; 4];
     let answer = wire_back::read_write(payload, &mut luma, &mut chroma, out);
-    text(rt, b"read and written: ")?;
-    number(rt, answer.number)?;
-    print!(rt; ", {} bytes, lists ", answer.count)?;
-    number(rt, wide(luma[0]))?;
-    text(rt, b" and ")?;
-    number(rt, wide(chroma[0]))?;
-    text(rt, b"\n")
+    println!(rt;
+        "read and written: {}, {} bytes, lists {} and {}",
+        answer.number, answer.count, luma[0], chroma[0]
+    )
 }
 
-// The first three rows of a plane of 16 columns.
-fn plane(rt: &impl Print, name: &[u8], s: &[u8]) -> io::Result<()>
-    requires { 48 ≤ length s.now }
+// The first three rows of a plane or a map of so many columns.
+fn rows_of(rt: &impl Print, name: &str, s: &[u8], columns: usize) -> io::Result<()>
+    requires { 3 * columns ≤ length s.now }
 {
-    text(rt, name)?;
-    part(rt, b"", &s[0..16])?;
-    part(rt, b"", &s[16..32])?;
-    part(rt, b"", &s[32..48])?;
-    text(rt, b"\n")
-}
-
-// A byte of a map: what the calls set is a digit.
-fn letter(b: u8) -> u8 {
-    if b < 10 { b + 48 } else { b }
-}
-
-// A row of a map of 8 columns.
-fn row(rt: &impl Print, s: &[u8], at: usize) -> io::Result<()>
-    requires { at + 8 ≤ length s.now }
-{
-    let letters = [
-        letter(s[at]),
-        letter(s[at + 1]),
-        letter(s[at + 2]),
-        letter(s[at + 3]),
-        letter(s[at + 4]),
-        letter(s[at + 5]),
-        letter(s[at + 6]),
-        letter(s[at + 7]),
-    ];
-    part(rt, b"", &letters)
-}
-
-// The first three rows of a map of 8 columns.
-fn blocks(rt: &impl Print, name: &[u8], s: &[u8]) -> io::Result<()>
-    requires { 24 ≤ length s.now }
-{
-    text(rt, name)?;
-    row(rt, s, 0)?;
-    row(rt, s, 8)?;
-    row(rt, s, 16)?;
-    text(rt, b"\n")
+    println!(rt;
+        "{name}: {} {} {}",
+        Part(&s[..columns]),
+        Part(&s[columns..2 * columns]),
+        Part(&s[2 * columns..3 * columns])
+    )
 }
 
 // A 5x5 picture of Y, U and V goes as V1 onto one earlier picture of dots, whose map is dots too, and as V2, by a rule, onto another, over a
 // list.
-fn both(rt: &impl Print, title: &[u8], rule: WidthRule, rects: &[u16]) -> io::Result<()> {
+fn both(rt: &impl Print, title: &str, rule: WidthRule, rects: &[u16]) -> io::Result<()> {
     let y = [b'Y'; 256];
     let u = [b'U'; 256];
     let v = [b'V'; 256];
@@ -183,17 +153,15 @@ fn both(rt: &impl Print, title: &[u8], rule: WidthRule, rects: &[u16]) -> io::Re
         &mut second_v,
         &mut second_map,
     );
-    text(rt, title)?;
-    number(rt, answer.number)?;
-    text(rt, b"\n")?;
-    plane(rt, b"V1, Y:", &first_y)?;
-    plane(rt, b"V1, U:", &first_u)?;
-    plane(rt, b"V1, V:", &first_v)?;
-    blocks(rt, b"V1, map:", &first_map)?;
-    plane(rt, b"V2, Y:", &second_y)?;
-    plane(rt, b"V2, U:", &second_u)?;
-    plane(rt, b"V2, V:", &second_v)?;
-    blocks(rt, b"V2, map:", &second_map)
+    println!(rt; "{title}: {}", answer.number)?;
+    rows_of(rt, "V1, Y", &first_y, 16)?;
+    rows_of(rt, "V1, U", &first_u, 16)?;
+    rows_of(rt, "V1, V", &first_v, 16)?;
+    rows_of(rt, "V1, map", &first_map, 8)?;
+    rows_of(rt, "V2, Y", &second_y, 16)?;
+    rows_of(rt, "V2, U", &second_u, 16)?;
+    rows_of(rt, "V2, V", &second_v, 16)?;
+    rows_of(rt, "V2, map", &second_map, 8)
 }
 
 fn main(rt: HostRuntime) -> io::Result<()> {
@@ -231,12 +199,12 @@ fn main(rt: HostRuntime) -> io::Result<()> {
     )?;
     read_write(&rt, b"abc\xc0", &mut again)?;
     read_write(&rt, payload, &mut again[0..41])?;
-    both(&rt, b"both layouts: ", WidthRule::To16, &[3, 0, 4, 2])?;
-    both(&rt, b"both layouts: ", WidthRule::To16, &[5, 0, 5, 4])?;
-    both(&rt, b"both layouts: ", WidthRule::To16, &[3, 0, 4, 2, 9])?;
+    both(&rt, "both layouts", WidthRule::To16, &[3, 0, 4, 2])?;
+    both(&rt, "both layouts", WidthRule::To16, &[5, 0, 5, 4])?;
+    both(&rt, "both layouts", WidthRule::To16, &[3, 0, 4, 2, 9])?;
     both(
         &rt,
-        b"both layouts, V2 by the 32 rule: ",
+        "both layouts, V2 by the 32 rule",
         WidthRule::To32,
         &[3, 0, 4, 2],
     )?;

@@ -14,7 +14,7 @@ use borrow.Author.Tests.{eqb-true, eqb-false, eq-eqb, ne_eqb}
 use Rattle.lent.specs.Refusal.{refusal}
 use Rattle.lent.specs.Sizes.{half_up}
 use Rattle.lent.proofs.Bools.{cond-true, cond-false}
-use Rattle.lent.proofs.Refusal.{refusal_exactly, refusal_none, refusal_first}
+use Rattle.lent.proofs.Refusal.{refusal_exactly, refusal_none}
 use Rattle.picture.specs.declared.Size.{Size}
 use Rattle.picture.specs.Sizes.{stride_of, rows_of, planes_short, PlanesFit}
 use Rattle.picture.proofs.Sizes.{short_exactly, fit_exactly}
@@ -123,30 +123,9 @@ module _ (t : Way) (z : Size) (p : PlaneLengths) (w : View) (m : PlaneLengths) (
       fits : (v : View) (n : PlaneLengths) → ((narrow v ≡ false) × (plane_short v n.y n.u n.v ≡ false)) ↔ Fits v n
       fits v n = Iff.trans (Iff.symm (view_0_exactly v n.y n.u n.v)) (view_0_plain v n.y n.u n.v)
 
-  -- ---- the number test by test, as the code finds it
-
-  pub number_1 : planes_short z p.y p.u p.v ≡ true → check_number_of t z p w m x a ≡ 1
-  unfolding check_number_of
-  number_1 e = cond-true short _ _ e
-
-  pub number_5 : planes_short z p.y p.u p.v ≡ false → too_large (split_wide_of t z) z ≡ true → check_number_of t z p w m x a ≡ 5
-  unfolding check_number_of
-  number_5 e f = cond-false short _ _ e ∙ cond-true large _ _ f
-
-  module _ (long : planes_short z p.y p.u p.v ≡ false) (small : too_large (split_wide_of t z) z ≡ false) where
-    after_picture : check_number_of t z p w m x a ≡ refusal (tests w m ++ tests x a)
-    unfolding check_number_of
-    after_picture = cond-false short _ _ long ∙ cond-false large _ _ small
-
-    pub number_main : (view_number_of w m.y m.u m.v ≡ 0 → ⊥) → check_number_of t z p w m x a ≡ view_number_of w m.y m.u m.v
-    unfolding view_number_of
-    number_main some = after_picture ∙ refusal_first (tests w m) (tests x a) some
-
-    pub number_auxiliary : view_number_of w m.y m.u m.v ≡ 0 → check_number_of t z p w m x a ≡ view_number_of x a.y a.u a.v
-    unfolding view_number_of
-    number_auxiliary none =
-        let f = (view_0_exactly w m.y m.u m.v).0 none in
-        after_picture ∙ cond-false (narrow w) _ _ f.0 ∙ cond-false (plane_short w m.y m.u m.v) _ _ f.1
+  -- the picture of a check that is not refused splits, as a call asks it
+  pub check_0_splits : check_number_of t z p w m x a ≡ 0 → (planes_short z p.y p.u p.v ≡ false) × (too_large (split_wide_of t z) z ≡ false)
+  check_0_splits e = (splits t z p).1 (check_0_exactly.0 e).0
 
 -- ---- the answer
 

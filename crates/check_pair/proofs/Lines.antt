@@ -5,12 +5,10 @@ use native.Mathlib.Nat.{le_trans, add-zero, zero-add}
 use native.Mathlib.Omega.{arith}
 use mathlib.Core.Path.{◌≡◌, refl, sym, ap, ◌∙◌}
 use mathlib.Core.Bool.{not}
-use mathlib.Core.Logic.{⊎_elim}
 use mathlib.Core.List.{List}
 use lib.Dec.{eqb}
 use lib.ListN.{length, get_or}
 use borrow.Author.Tests.{lt-ltb, le-ltb}
-use Rattle.lent.proofs.Bools.{split}
 use Rattle.lent.proofs.Cells.{row_in}
 use Rattle.layout.specs.Maps.{PY, PU, PV, shift, half_of, into}
 use Rattle.layout.specs.declared.Chroma.{Chroma}
@@ -41,14 +39,6 @@ module _ {n : Name} {len m stride line : ℕ} (fits : LineFits n len m stride li
   -- all of a row, or each step-th sample of it in len columns
   pub line_fits : (step k r : ℕ) → stride % step ≡ 0 → stride ≤ step * k → r < full_of n line - full_of n line % 16 + 16 → WideFits k m step stride r
   line_fits step k r even room lt = record { even = even; room = room; reach = line_reach r lt }
-
--- a row of a chroma plane whose view falls into quarters falls into halves
-pub in_halves : (len : ℕ) → 2 * len % 4 ≡ 0 → len % 2 ≡ 0
-in_halves len fours =
-    ⊎_elim
-    (λ lt. omega arith)
-    (λ ge. let odd : len ≡ 2 * (len / 2) + 1 = omega arith in absurd (⊎_elim (λ low. omega arith) (λ high. omega arith) (split (2 * len / 4) (len / 2 + 1))))
-    (split (len % 2) 1)
 
 -- ---- V1
 

@@ -1,7 +1,7 @@
 -- The walk over the rows of a plane: what was passed has no wrong sample; one row more, the row that has one, and the end.
 -- Assumes nothing.
 use Prim.Native.Nat.{ℕ, ◌+◌, ◌*◌, ◌-◌, ◌%◌, ◌<◌, ◌≤◌}
-use native.Mathlib.Nat.{le_trans, mul-le-mul_left, mul-le-mul_right, suc-mul, zero-mul}
+use native.Mathlib.Nat.{le_trans, mul-le-mul_right, suc-mul}
 use native.Mathlib.Numerals.{add-one}
 use native.Mathlib.Omega.{arith}
 use mathlib.Core.Path.{◌≡◌, sym, ap, ◌∙◌, subst}
@@ -13,7 +13,7 @@ use Rattle.lent.specs.Counts.{first_where}
 use Rattle.lent.specs.Samples.{sample}
 use Rattle.lent.proofs.ByPart.{part_long}
 use Rattle.lent.proofs.Cells.{cell_row, cell_col, row_in}
-use Rattle.lent.proofs.First.{Passed, passed_none, first_none, first_low}
+use Rattle.lent.proofs.First.{Passed, first_none, first_low}
 use Rattle.layout.specs.declared.Layout.{Layout}
 use Rattle.view.specs.declared.Plane.{Plane}
 use Rattle.view.specs.View.{PlaneFits}
@@ -25,10 +25,6 @@ use Rattle.check_pair.specs.declared.Name.{Name}
 use Rattle.check_pair.specs.declared.Name.TheVariants.{YPlane, UPlane, VPlane}
 use Rattle.check_pair.specs.Verdict.{cell_wrong, first_in}
 use Rattle.check_pair.specs.Rows.{full_of, LineFits, PlaneWhole}
-
--- no plane has more samples than bytes
-pub samples_low : (q : Plane) {len : ℕ} → PlaneFits q len → q.height * q.width ≤ len
-samples_low q fits = le_trans (mul-le-mul_left q.height fits.wide) fits.long
 
 -- ---- a row of a plane reads rows of the picture that are there
 
@@ -56,9 +52,6 @@ module _ {n : Name} {t : Layout} {q : Plane} {len m stride : ℕ} (fits : PlaneW
 -- ---- the walk
 
 module _ (s : ℕ → ℕ → ℕ) (q : Plane) (xs : List ℕ) (fits : PlaneFits q (length xs)) where
-  pub walk_none : Passed (cell_wrong s q xs) (0 * q.width)
-  walk_none = subst (Passed (cell_wrong s q xs)) (sym (zero-mul q.width)) (passed_none (cell_wrong s q xs))
-
   -- all rows were passed
   pub walk_end : (line : ℕ) → line ≡ q.height → Passed (cell_wrong s q xs) (line * q.width) → q.height * q.width ≡ first_in s q xs
   unfolding first_in

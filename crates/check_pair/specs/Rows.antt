@@ -5,18 +5,22 @@
 --   LineFits n len m stride line         row `line` of a plane that is len wide reads a picture's plane of m bytes, and that has the rows
 --   PlaneWhole n t q len m stride        the same of every row of the plane q of len bytes, of a view in the layout t, whose sides fit 16 bits
 --   ViewWhole t w m stride               the same of a view's sides
-use Rattle.std.specs.Prelude.{ℕ, ◌+◌, ◌*◌, ◌%◌, ◌<◌, ◌≡◌, List}
+--   planes_in f, planes_of w             what the picture's three planes hold, and a view's
+--   EachPlane f P                        P holds of the length of each of them
+use Rattle.std.specs.Prelude.{ℕ, ◌+◌, ◌*◌, ◌%◌, ◌<◌, ◌≡◌, List, length}
 use Rattle.layout.specs.Maps.{half_of, into, view_wide_of}
 use Rattle.layout.specs.declared.Layout.{Layout}
 use Rattle.view.specs.declared.Plane.{Plane}
 use Rattle.view.specs.declared.View.{View}
+use Rattle.view.specs.declared.frame.Frame.{Frame}
 use Rattle.view.specs.View.{PlaneFits}
 use Rattle.split_views.specs.Fits.{BlockFits, MacroblocksFit, WideEnough}
-use Rattle.split_views.specs.Views.{seen, pick_chroma}
+use Rattle.split_views.specs.Views.{Planes, planes, seen, pick_chroma}
 use Rattle.check_rows.specs.declared.Taken.{Taken}
 use Rattle.check_rows.specs.Rows.{step_of, first_of}
 use Rattle.check_pair.specs.declared.Name.{Name}
 use Rattle.check_pair.specs.declared.Name.TheVariants.{YPlane, UPlane, VPlane}
+use Rattle.check_pair.specs.declared.Source.{Source}
 
 abbrev pub full_of : Name → ℕ → ℕ
 full_of YPlane k = k
@@ -46,3 +50,14 @@ pub record ViewWhole (t : Layout) (w : View) (m stride : ℕ) : Type 0 where
   pub wide : w.width ≡ view_wide_of t stride
   pub high : w.height < 65536
   pub broad : w.width < 65536
+
+abbrev pub planes_in : Source → Planes
+planes_in f = planes f.y.now f.u.now f.v.now
+
+abbrev pub planes_of : Frame → Planes
+planes_of w = planes w.y.now w.u.now w.v.now
+
+pub record EachPlane (f : Source) (P : ℕ → Type 0) : Type 0 where
+  pub y : P (length f.y.now)
+  pub u : P (length f.u.now)
+  pub v : P (length f.v.now)

@@ -10,11 +10,12 @@
 --   first_in s q xs         the first such k; where there is none, how many samples the plane has
 --   where_of v i w k        the place of sample k of a plane w wide, the plane i of the view v
 --   plane_verdict_of v i s q xs     the verdict on one plane: same, or its first wrong sample
+--   verdict_of x            the verdict that a first wrong sample is, or same where there is none
 --   or_else d e             the verdict d, or e where d is same
 --   named_verdict_of s n t stride p w m    the verdict on the plane n of the view w with the planes m
 --   view_verdict_of s t stride p w m       that on the view: Y, then U, then V
 --   pair_verdict_of t z p w m x a   the verdict on both: sizes first, then main, then auxiliary
-use Rattle.std.specs.Prelude.{ℕ, ◌*◌, ◌/◌, ◌%◌, Bool, cond, not, ◌&&◌, List, ltb, eqb}
+use Rattle.std.specs.Prelude.{ℕ, ◌*◌, ◌/◌, ◌%◌, Bool, cond, not, ◌&&◌, List, Option, None, Some, ltb, eqb}
 use Rattle.lent.specs.Counts.{first_where}
 use Rattle.lent.specs.Samples.{sample}
 use Rattle.picture.specs.declared.Size.{Size}
@@ -80,6 +81,10 @@ where_of v i w k = record { view = v; plane = i; row = k / w; column = k % w }
 
 unfoldable pub plane_verdict_of : ℕ → ℕ → (ℕ → ℕ → ℕ) → Plane → List ℕ → Verdict
 plane_verdict_of v i s q xs = cond (ltb (first_in s q xs) (q.height * q.width)) (Wrong (where_of v i q.width (first_in s q xs))) Same
+
+abbrev pub verdict_of : Option Where → Verdict
+verdict_of None = Same
+verdict_of (Some l) = Wrong l
 
 abbrev pub or_else : Verdict → Verdict → Verdict
 or_else Same e = e

@@ -6,15 +6,18 @@
 // a row's first wrong sample in `rows`, a plane's, a view's and the pair's in `planes`.
 #![tactic(auto)]
 
-pub mod number; // 1, 5, 3 or 4
+pub mod number; // whether it is refused, with 1, 5, 3 or 4
 pub mod planes; // the verdict on a plane, a view and both
 pub mod rows; // a row of a view beside what the split has there
 
 ghost use Rattle.std.specs.Prelude.{◌≡◌};
+ghost use Rattle.lent.specs.Refused.{number_of};
 ghost use Rattle.split.specs.Split.{planes};
+ghost use Rattle.check_pair.specs.Verdict.{index_of, order_of};
 ghost use Rattle.check_pair.specs.Checked.{answered_of, refused_with, checked_of};
 
 use layout::Way;
+use lent::refused::Refusal;
 use picture::Size;
 use view::View;
 
@@ -25,12 +28,46 @@ pub enum Sent {
     Auxiliary,
 }
 
+impl Sent {
+    // Its number in an answer.
+    fn order(self) -> u8
+        ensures { result ≡ order_of self }
+    {
+        match self {
+            Sent::Main => 0,
+            Sent::Auxiliary => 1,
+        }
+    }
+}
+
 // Which plane of a view.
 #[derive(Clone, Copy)]
 pub enum Name {
     YPlane,
     UPlane,
     VPlane,
+}
+
+impl Name {
+    // Its number in an answer.
+    fn index(self) -> u8
+        ensures { result ≡ index_of self }
+    {
+        match self {
+            Name::YPlane => 0,
+            Name::UPlane => 1,
+            Name::VPlane => 2,
+        }
+    }
+}
+
+// The picture's planes, and their stride.
+#[derive(Clone, Copy)]
+pub struct Source<'a> {
+    pub y: &'a [u8],
+    pub u: &'a [u8],
+    pub v: &'a [u8],
+    pub stride: usize,
 }
 
 // A sample of a pair of views: view 0 is the main one and 1 the auxiliary one, plane 0 is Y, 1 is U and 2 is V.
@@ -51,6 +88,7 @@ pub enum Verdict {
 }
 
 // What a check answers: 0 or the number of its refusal, whether the views are the split, whether a place is named, and the place.
+// Flags beside numbers, and no Result of an Option: C is handed it as it is; `Verdict` is the form inside.
 #[repr(C)]
 #[derive(Clone, Copy)]
 pub struct Checked {
@@ -63,45 +101,44 @@ pub struct Checked {
     pub column: u16,
 }
 
-// The answer with the number of a refusal.
-fn refused(number: u32) -> Checked
-    ensures { result ≡ refused_with number }
-{
-    Checked {
-        number,
-        same: false,
-        named: false,
-        view: 0,
-        plane: 0,
-        row: 0,
-        column: 0,
-    }
-}
+// The answer that says no and names no place.
+const NO: Checked = Checked {
+    number: 0,
+    same: false,
+    named: false,
+    view: 0,
+    plane: 0,
+    row: 0,
+    column: 0,
+};
 
-// The answer with a verdict.
-fn answered(verdict: Verdict) -> Checked
-    ensures { result ≡ answered_of verdict }
-{
-    match verdict {
-        Verdict::Same => Checked {
-            number: 0,
-            same: true,
-            named: false,
-            view: 0,
-            plane: 0,
-            row: 0,
-            column: 0,
-        },
-        Verdict::Sizes => refused(0),
-        Verdict::Wrong(at) => Checked {
-            number: 0,
-            same: false,
-            named: true,
-            view: at.view,
-            plane: at.plane,
-            row: at.row,
-            column: at.column,
-        },
+impl Checked {
+    // The answer with the number of a refusal.
+    fn refused(refusal: Refusal) -> Self
+        ensures { result ≡ refused_with (number_of refusal) }
+    {
+        Checked {
+            number: refusal.number(),
+            ..NO
+        }
+    }
+
+    // The answer with a verdict.
+    fn answered(verdict: Verdict) -> Self
+        ensures { result ≡ answered_of verdict }
+    {
+        match verdict {
+            Verdict::Same => Checked { same: true, ..NO },
+            Verdict::Sizes => NO,
+            Verdict::Wrong(at) => Checked {
+                named: true,
+                view: at.view,
+                plane: at.plane,
+                row: at.row,
+                column: at.column,
+                ..NO
+            },
+        }
     }
 }
 
@@ -124,7 +161,7 @@ pub fn check(
     ensures { result ≡ checked_of way size (planes y.now u.now v.now) main (planes main_y.now main_u.now main_v.now)
         auxiliary (planes auxiliary_y.now auxiliary_u.now auxiliary_v.now) }
 {
-    let number = number::check_number(
+    let checked = number::check(
         way,
         size,
         y,
@@ -139,22 +176,12 @@ pub fn check(
         auxiliary_u,
         auxiliary_v,
     );
-    if number != 0 {
-        return refused(number);
+    match checked {
+        Err(refusal) => Checked::refused(refusal),
+        Ok((first, second)) => {
+            let stride = picture::stride(size);
+            let from = Source { y, u, v, stride };
+            Checked::answered(planes::pair_verdict(way, size, from, first, second))
+        }
     }
-    answered(planes::pair_verdict(
-        way,
-        size,
-        y,
-        u,
-        v,
-        main,
-        main_y,
-        main_u,
-        main_v,
-        auxiliary,
-        auxiliary_y,
-        auxiliary_u,
-        auxiliary_v,
-    ))
 }

@@ -1,37 +1,16 @@
-// The verdict on a plane, on a view and on both: row by row, plane by plane, view by view, and the first sample that is wrong.
-ghost use Rattle.std.specs.Prelude.{◌≡◌, length};
-ghost use Rattle.view.specs.View.{ViewFits};
-ghost use Rattle.split.specs.Split.{planes, lengths_of};
-ghost use Rattle.check_pair.specs.Number.{check_number_of};
+// The first wrong sample of a plane, of a view and of both: row by row, plane by plane, view by view; and the verdict on the pair.
+ghost use Rattle.std.specs.Prelude.{◌≡◌, false, length};
+ghost use Rattle.picture.specs.Sizes.{stride_of, planes_short};
+ghost use Rattle.split.specs.Number.{split_wide_of, too_large};
 ghost use Rattle.check_pair.specs.Verdict.{part_of, index_of, order_of, held_of, first_in, plane_verdict_of, view_verdict_of};
-ghost use Rattle.check_pair.specs.Verdict.{pair_verdict_of};
-ghost use Rattle.check_pair.specs.Rows.{PlaneWhole, ViewWhole};
+ghost use Rattle.check_pair.specs.Verdict.{pair_verdict_of, verdict_of};
+ghost use Rattle.check_pair.specs.Rows.{PlaneWhole, ViewWhole, EachPlane, planes_in, planes_of};
 
-use crate::{Name, Sent, Verdict, Where};
+use crate::{Name, Sent, Source, Verdict, Where};
 use layout::{Layout, Way};
 use picture::Size;
-use view::{Plane, View};
-
-// A view's number in an answer.
-fn order(sent: Sent) -> u8
-    ensures { result ≡ order_of sent }
-{
-    match sent {
-        Sent::Main => 0,
-        Sent::Auxiliary => 1,
-    }
-}
-
-// A plane's number in an answer.
-fn index(name: Name) -> u8
-    ensures { result ≡ index_of name }
-{
-    match name {
-        Name::YPlane => 0,
-        Name::UPlane => 1,
-        Name::VPlane => 2,
-    }
-}
+use view::Plane;
+use view::frame::Frame;
 
 // The first wrong sample of a plane, counted row by row; where there is none, how many it has.
 fn plane_first(
@@ -40,184 +19,92 @@ fn plane_first(
     name: Name,
     plane: &[u8],
     p: Plane,
-    y: &[u8],
-    u: &[u8],
-    v: &[u8],
-    stride: usize,
+    from: Source<'_>,
 ) -> usize
-    requires plane_whole { PlaneWhole name layout p (length plane.now) (length y.now) stride }
-    requires plane_whole_2 { PlaneWhole name layout p (length plane.now) (length u.now) stride }
-    requires plane_whole_3 { PlaneWhole name layout p (length plane.now) (length v.now) stride }
-    ensures { result ≡ first_in (held_of sent layout stride (planes y.now u.now v.now) (part_of name)) p plane.now }
+    requires { EachPlane from (λ m. PlaneWhole name layout p (length plane.now) m from.stride) }
+    ensures { result ≡ first_in (held_of sent layout from.entry.stride (planes_in from.entry) (part_of name)) p plane.now }
 {
     let n = p.width;
-    let mut line = 0;
-    while line < p.height {
+    for line in 0..p.height {
         let start = line * p.stride;
-        let found = crate::rows::held_row(
-            sent,
-            layout,
-            name,
-            &plane[start..start + n],
-            y,
-            u,
-            v,
-            stride,
-            line,
-        );
+        let found = crate::rows::held_row(sent, layout, name, &plane[start..start + n], from, line);
         if found < n {
             return line * n + found;
         }
-        line += 1;
     }
     p.height * n
 }
 
-// The verdict on a plane.
+// The first wrong sample of a plane, if there is one.
+#[tactic(auto, unfolding(crate::specs::Verdict::plane_verdict_of))]
 fn plane_verdict(
     sent: Sent,
     layout: Layout,
     name: Name,
     plane: &[u8],
     p: Plane,
-    y: &[u8],
-    u: &[u8],
-    v: &[u8],
-    stride: usize,
-) -> Verdict
-    requires plane_whole { PlaneWhole name layout p (length plane.now) (length y.now) stride }
-    requires plane_whole_2 { PlaneWhole name layout p (length plane.now) (length u.now) stride }
-    requires plane_whole_3 { PlaneWhole name layout p (length plane.now) (length v.now) stride }
-    ensures { result ≡ plane_verdict_of (order_of sent) (index_of name)
-        (held_of sent layout stride (planes y.now u.now v.now) (part_of name)) p plane.now }
+    from: Source<'_>,
+) -> Option<Where>
+    requires { EachPlane from (λ m. PlaneWhole name layout p (length plane.now) m from.stride) }
+    ensures { verdict_of result ≡ plane_verdict_of (order_of sent) (index_of name)
+        (held_of sent layout from.entry.stride (planes_in from.entry) (part_of name)) p plane.now }
 {
-    let found = plane_first(sent, layout, name, plane, p, y, u, v, stride);
+    let found = plane_first(sent, layout, name, plane, p, from);
     if found < p.height * p.width {
-        return Verdict::Wrong(Where {
-            view: order(sent),
-            plane: index(name),
+        Some(Where {
+            view: sent.order(),
+            plane: name.index(),
             row: (found / p.width) as u16,
             column: (found % p.width) as u16,
-        });
+        })
+    } else {
+        None
     }
-    Verdict::Same
 }
 
-// The verdict on a view: Y, then U, then V.
-fn view_verdict(
-    sent: Sent,
-    layout: Layout,
-    w: View,
-    vy: &[u8],
-    vu: &[u8],
-    vv: &[u8],
-    y: &[u8],
-    u: &[u8],
-    v: &[u8],
-    stride: usize,
-) -> Verdict
-    requires view_fits { ViewFits w (length vy.now) (length vu.now) (length vv.now) }
-    requires view_whole { ViewWhole layout w (length y.now) stride }
-    requires view_whole_2 { ViewWhole layout w (length u.now) stride }
-    requires view_whole_3 { ViewWhole layout w (length v.now) stride }
-    ensures { result ≡ view_verdict_of sent layout stride (planes y.now u.now v.now) w (planes vy.now vu.now vv.now) }
+// The first wrong sample of a view, if there is one: of Y, then of U, then of V.
+#[tactic(auto, unfolding(crate::specs::Verdict::view_verdict_of))]
+fn view_verdict(sent: Sent, layout: Layout, frame: Frame<'_>, from: Source<'_>) -> Option<Where>
+    requires { EachPlane from (λ m. ViewWhole layout frame.sizes m from.stride) }
+    ensures { verdict_of result ≡ view_verdict_of sent layout from.entry.stride (planes_in from.entry) frame.entry.sizes (planes_of frame.entry) }
 {
-    let luma = plane_verdict(
-        sent,
-        layout,
-        Name::YPlane,
-        vy,
-        view::luma(w),
-        y,
-        u,
-        v,
-        stride,
-    );
-    let Verdict::Same = luma else {
-        return luma;
-    };
-    let chroma = plane_verdict(
-        sent,
-        layout,
-        Name::UPlane,
-        vu,
-        view::chroma(w),
-        y,
-        u,
-        v,
-        stride,
-    );
-    let Verdict::Same = chroma else {
-        return chroma;
-    };
-    plane_verdict(
-        sent,
-        layout,
-        Name::VPlane,
-        vv,
-        view::chroma(w),
-        y,
-        u,
-        v,
-        stride,
-    )
+    let luma = view::luma(frame.sizes);
+    if let Some(at) = plane_verdict(sent, layout, Name::YPlane, frame.y, luma, from) {
+        return Some(at);
+    }
+    let chroma = view::chroma(frame.sizes);
+    if let Some(at) = plane_verdict(sent, layout, Name::UPlane, frame.u, chroma, from) {
+        return Some(at);
+    }
+    plane_verdict(sent, layout, Name::VPlane, frame.v, chroma, from)
 }
 
 // The verdict on both views: their sizes, then the main view, then the auxiliary one.
+#[tactic(auto, unfolding(crate::specs::Verdict::pair_verdict_of))]
 pub fn pair_verdict(
     way: Way,
     size: Size,
-    y: &[u8],
-    u: &[u8],
-    v: &[u8],
-    main: View,
-    main_y: &[u8],
-    main_u: &[u8],
-    main_v: &[u8],
-    auxiliary: View,
-    auxiliary_y: &[u8],
-    auxiliary_u: &[u8],
-    auxiliary_v: &[u8],
+    from: Source<'_>,
+    main: Frame<'_>,
+    auxiliary: Frame<'_>,
 ) -> Verdict
-    requires { check_number_of way size (lengths_of (planes y.now u.now v.now))
-        main (lengths_of (planes main_y.now main_u.now main_v.now))
-        auxiliary (lengths_of (planes auxiliary_y.now auxiliary_u.now auxiliary_v.now)) ≡ 0 }
-    ensures { result ≡ pair_verdict_of way size (planes y.now u.now v.now) main (planes main_y.now main_u.now main_v.now)
-        auxiliary (planes auxiliary_y.now auxiliary_u.now auxiliary_v.now) }
+    requires long { planes_short size (length from.y.now) (length from.u.now) (length from.v.now) ≡ false }
+    requires small { too_large (split_wide_of way size) size ≡ false }
+    requires stride { from.stride ≡ stride_of size }
+    ensures { result ≡ pair_verdict_of way size (planes_in from.entry) main.entry.sizes (planes_of main.entry)
+        auxiliary.entry.sizes (planes_of auxiliary.entry) }
 {
-    if !crate::number::sizes_agree(way, size, main) {
+    if !crate::number::sizes_agree(way, size, main.sizes)
+        || !crate::number::sizes_agree(way, size, auxiliary.sizes)
+    {
         return Verdict::Sizes;
     }
-    if !crate::number::sizes_agree(way, size, auxiliary) {
-        return Verdict::Sizes;
-    }
-    let stride = picture::stride(size);
     let layout = split::number::split_layout(way, size);
-    let first = view_verdict(
-        Sent::Main,
-        layout,
-        main,
-        main_y,
-        main_u,
-        main_v,
-        y,
-        u,
-        v,
-        stride,
-    );
-    let Verdict::Same = first else {
-        return first;
-    };
-    view_verdict(
-        Sent::Auxiliary,
-        layout,
-        auxiliary,
-        auxiliary_y,
-        auxiliary_u,
-        auxiliary_v,
-        y,
-        u,
-        v,
-        stride,
-    )
+    if let Some(at) = view_verdict(Sent::Main, layout, main, from) {
+        return Verdict::Wrong(at);
+    }
+    match view_verdict(Sent::Auxiliary, layout, auxiliary, from) {
+        Some(at) => Verdict::Wrong(at),
+        None => Verdict::Same,
+    }
 }

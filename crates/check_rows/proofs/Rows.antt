@@ -27,27 +27,11 @@ part_at xs a e j h = get_or-take (e - a) (drop a xs) j 0 (omega arith) ∙ get_o
 
 -- a source that has `step` bytes for each column
 module _ (step a e : ℕ) where
-  pub step_in : (from : ℕ) → from < step → a < e → step * a + from < step * e
-  step_in from low h = let next : a + 1 ≤ e = omega arith in omega (arith, mul-le-mul_left step next, mul-add step a 1)
-
   pub step_at : (xs : List ℕ) (from j : ℕ) → from < step → a + j < e → get_or (part_of xs (step * a) (step * e)) (step * j + from) 0 ≡ get_or xs (step * (a + j) + from) 0
   step_at xs from j low h =
       let at : step * a + (step * j + from) ≡ step * (a + j) + from = omega (arith, mul-add step a j) in
       let next : a + j + 1 ≤ e = omega arith in
       part_at xs (step * a) (step * e) (step * j + from) (omega (arith, mul-le-mul_left step next, mul-add step (a + j) 1)) ∙ ap (λ (k : ℕ). get_or xs k 0) at
-
--- `by` bytes for each column, of a source that has `step` for each of n columns
-module _ (xs : List ℕ) (by step n : ℕ) (is : by ≡ step) (fits : step * n ≤ length xs) where
-  pub steps_room : (a e : ℕ) → a ≤ e → e ≤ n → (by * a ≤ by * e) × (by * e ≤ length xs)
-  steps_room a e ordered h = (mul-le-mul_left by ordered, omega (arith, mul-le-mul_left by h, ap (λ (b : ℕ). b * n) is))
-
-  pub steps_long : (a e m : ℕ) → a + m ≡ e → e ≤ n → step * m ≤ length (part_of xs (by * a) (by * e))
-  steps_long a e m end h =
-      let room = steps_room a e (omega arith) h in
-      omega (arith, part_long xs (by * a) (by * e) room.0 room.1, mul-add by a m, ap (λ (k : ℕ). by * k) end, ap (λ (b : ℕ). b * m) is)
-
-  pub steps_rest : (row : List ℕ) → n ≡ length row → (a : ℕ) → a ≤ n → step * length (part_of row a n) ≤ length (part_of xs (by * a) (by * n))
-  steps_rest row end a h = steps_long a n (length (part_of row a n)) (omega (arith, part_long row a n h (omega arith))) (omega arith)
 
 -- ---- a row
 

@@ -10,7 +10,7 @@ use lib.ListN.{length, get_or}
 use Rattle.lent.specs.Paint.{paint, every}
 use Rattle.lent.proofs.Paint.{get_d_paint}
 use Rattle.split_rows.specs.Pairs.{pair_of}
-use Rattle.split_rows.proofs.Rows.{first_of_lem, last_of, firsts_of}
+use Rattle.split_rows.proofs.Rows.{first_of_lem, last_of}
 use Rattle.check_rows.specs.declared.Taken.{Taken}
 use Rattle.check_rows.specs.declared.Taken.TheVariants.{Evens, Odds, Fourths, Between}
 use Rattle.check_rows.specs.Rows.{Right, step_of, first_of}
@@ -23,10 +23,10 @@ module _ (row src z pairs : List ℕ) (n from : ℕ) {A : Type 0} (long : length
       right_same row _ _ n long
       (λ k h. ap (λ (l : List ℕ). get_or l k 0 % 256) is ∙ first_of_lem src z row n (omega arith) (omega arith) byte none k (omega arith))
 
-  pub lasts_right : from ≡ 1 → A ↔ Right row (λ k. get_or pairs k 0 / 256) (length row) → A ↔ Right row (λ k. get_or src (2 * k + from) 0) n
+  pub lasts_right : from ≡ 1 → A ↔ Right row (λ k. get_or pairs k 0 / 256 % 256) (length row) → A ↔ Right row (λ k. get_or src (2 * k + from) 0) n
   lasts_right one =
       right_same row _ _ n long
-      (λ k h. ap (λ (l : List ℕ). get_or l k 0 / 256) is ∙ last_of src z row n (omega arith) (omega arith) byte one k (omega arith))
+      (λ k h. ap (λ (l : List ℕ). get_or l k 0 / 256 % 256) is ∙ last_of src z row n (omega arith) (omega arith) byte one k (omega arith))
 
 -- and what it says of a row beside every second byte of every second byte, it says of every fourth one
 pub fourths_right : (row src z half : List ℕ) (n from : ℕ) {A : Type 0} → 2 * n ≤ length z → from < 2 → half ≡ paint every (λ j. get_or src (2 * j + 0) 0) z
@@ -34,14 +34,6 @@ pub fourths_right : (row src z half : List ℕ) (n from : ℕ) {A : Type 0} → 
 fourths_right row src z half n from room low is =
     right_same row _ _ n refl
     (λ k h. ap (λ (l : List ℕ). get_or l (2 * k + from) 0) is ∙ get_d_paint every _ z (2 * k + from) (omega arith) ∙ ap (λ (j : ℕ). get_or src j 0) (omega arith))
-
--- the same where the first of these bytes are those of m pairs
-pub fourths_pairs : (row src z pairs y half : List ℕ) (m n from : ℕ) {A : Type 0} → 2 * n ≤ length y → length y ≤ m → length y ≤ length z → ((k : ℕ) → get_or src k 0 < 256)
-    → from < 2 → pairs ≡ paint (λ k. ltb k m) (pair_of src) z → half ≡ paint every (λ k. get_or pairs k 0 % 256) y
-    → A ↔ Right row (λ k. get_or half (2 * k + from) 0) n → A ↔ Right row (λ k. get_or src (4 * k + 2 * from) 0) n
-fourths_pairs row src z pairs y half m n from room most fits byte low is is' =
-    fourths_right row src y half n from room low
-    (is' ∙ ap (λ (l : List ℕ). paint every (λ k. get_or l k 0 % 256) y) is ∙ firsts_of src z y m most fits byte refl)
 
 -- the first is one of the step
 pub first_below : (taken : Taken) → first_of taken < step_of taken

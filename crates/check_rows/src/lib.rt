@@ -24,27 +24,29 @@ pub enum Taken {
     Between,
 }
 
-// How far apart they are.
-fn step(taken: Taken) -> usize
-    ensures { result ≡ step_of taken }
-{
-    match taken {
-        Taken::Evens => 2,
-        Taken::Odds => 2,
-        Taken::Fourths => 4,
-        Taken::Between => 4,
+impl Taken {
+    // How far apart they are.
+    fn step(self) -> usize
+        ensures { result ≡ step_of self }
+    {
+        match self {
+            Taken::Evens => 2,
+            Taken::Odds => 2,
+            Taken::Fourths => 4,
+            Taken::Between => 4,
+        }
     }
-}
 
-// The column of the first one.
-fn first(taken: Taken) -> usize
-    ensures { result ≡ first_of taken }
-{
-    match taken {
-        Taken::Evens => 0,
-        Taken::Odds => 1,
-        Taken::Fourths => 0,
-        Taken::Between => 2,
+    // The column of the first one.
+    fn first(self) -> usize
+        ensures { result ≡ first_of self }
+    {
+        match self {
+            Taken::Evens => 0,
+            Taken::Odds => 1,
+            Taken::Fourths => 0,
+            Taken::Between => 2,
+        }
     }
 }
 
@@ -54,48 +56,29 @@ fn scan(row: &[u8], src: &[u8], by: usize, from: usize) -> usize
     requires from_lt_by { from < by }
     ensures { result ≡ first_wrong row.now (λ c. get_or src.now (by * c + from) 0) }
 {
-    let n = row.len();
-    let mut i = 0;
-    while i < n {
-        if row[i] != src[by * i + from] {
+    for (i, b) in row.iter().enumerate() {
+        if *b != src[by * i + from] {
             return i;
         }
-        i += 1;
     }
-    n
+    row.len()
 }
 
-// How many columns are right for sure, by parts of 64, of what the row takes of src.
-fn taken_right_64(taken: Taken, row: &[u8], src: &[u8]) -> usize
-    requires { step_of taken * length row.now ≤ length src.now }
+// How many columns are right for sure, by parts of N, of what the row takes of src. M is 2 N. What is left, fewer than N columns, is not
+// looked at: a `for` in steps of N would have to leave out its last turn, and is no plainer.
+fn taken_right<const N: usize, const M: usize>(taken: Taken, row: &[u8], src: &[u8]) -> usize
+    requires n_value { 0 < N }
+    requires m_value { M ≡ 2 * N }
+    requires taken_in_bounds { step_of taken * length row.now ≤ length src.now }
     ensures { (result ≤ length row.now)
         × Right row.now (λ c. get_or src.now (step_of taken * c + first_of taken) 0) result }
 {
-    let by = step(taken);
+    let by = taken.step();
     let n = row.len();
     let mut at = 0;
-    while 64 <= n - at {
-        let end = at + 64;
-        if parts::taken_apart_64(taken, &row[at..end], &src[by * at..by * end]) != 0 {
-            return at;
-        }
-        at = end;
-    }
-    at
-}
-
-// The same by parts of 8.
-fn taken_right_8(taken: Taken, row: &[u8], src: &[u8]) -> usize
-    requires { step_of taken * length row.now ≤ length src.now }
-    ensures { (result ≤ length row.now)
-        × Right row.now (λ c. get_or src.now (step_of taken * c + first_of taken) 0) result }
-{
-    let by = step(taken);
-    let n = row.len();
-    let mut at = 0;
-    while 8 <= n - at {
-        let end = at + 8;
-        if parts::taken_apart_8(taken, &row[at..end], &src[by * at..by * end]) != 0 {
+    while N <= n - at {
+        let end = at + N;
+        if parts::taken_apart::<N, M>(taken, &row[at..end], &src[by * at..by * end]) != 0 {
             return at;
         }
         at = end;
@@ -109,12 +92,12 @@ fn taken_rest(taken: Taken, row: &[u8], src: &[u8]) -> usize
     ensures { result ≡ first_wrong row.now (λ c. get_or src.now (step_of taken * c + first_of taken) 0) }
 {
     let n = row.len();
-    let at = taken_right_8(taken, row, src);
+    let at = taken_right::<8, 16>(taken, row, src);
     if at == n {
         return n;
     }
-    let by = step(taken);
-    at + scan(&row[at..n], &src[by * at..by * n], by, first(taken))
+    let by = taken.step();
+    at + scan(&row[at..n], &src[by * at..by * n], by, taken.first())
 }
 
 // The first column that is wrong of what the row takes of src.
@@ -123,41 +106,25 @@ fn taken_first(taken: Taken, row: &[u8], src: &[u8]) -> usize
     ensures { result ≡ first_wrong row.now (λ c. get_or src.now (step_of taken * c + first_of taken) 0) }
 {
     let n = row.len();
-    let at = taken_right_64(taken, row, src);
+    let at = taken_right::<64, 128>(taken, row, src);
     if at == n {
         return n;
     }
-    let by = step(taken);
+    let by = taken.step();
     at + taken_rest(taken, &row[at..n], &src[by * at..by * n])
 }
 
-// How many columns are right for sure, by parts of 64, where the row is to be src.
-fn right_64(row: &[u8], src: &[u8]) -> usize
-    requires { length row.now ≡ length src.now }
+// How many columns are right for sure, by parts of N, where the row is to be src. The same loop.
+fn right<const N: usize>(row: &[u8], src: &[u8]) -> usize
+    requires n_value { 0 < N }
+    requires same_length { length row.now ≡ length src.now }
     ensures { (result ≤ length row.now) × Right row.now (λ c. get_or src.now c 0) result }
 {
     let n = row.len();
     let mut at = 0;
-    while 64 <= n - at {
-        let end = at + 64;
-        if parts::apart(&row[at..end], &src[at..end], 64) != 0 {
-            return at;
-        }
-        at = end;
-    }
-    at
-}
-
-// The same by parts of 8.
-fn right_8(row: &[u8], src: &[u8]) -> usize
-    requires { length row.now ≡ length src.now }
-    ensures { (result ≤ length row.now) × Right row.now (λ c. get_or src.now c 0) result }
-{
-    let n = row.len();
-    let mut at = 0;
-    while 8 <= n - at {
-        let end = at + 8;
-        if parts::apart(&row[at..end], &src[at..end], 8) != 0 {
+    while N <= n - at {
+        let end = at + N;
+        if parts::apart::<N>(&row[at..end], &src[at..end]) != 0 {
             return at;
         }
         at = end;
@@ -171,8 +138,8 @@ fn copied_first(row: &[u8], src: &[u8]) -> usize
     ensures { result ≡ first_wrong row.now (λ c. get_or src.now c 0) }
 {
     let n = row.len();
-    let most = right_64(row, src);
-    let at = most + right_8(&row[most..n], &src[most..n]);
+    let most = right::<64>(row, src);
+    let at = most + right::<8>(&row[most..n], &src[most..n]);
     if at == n {
         return n;
     }
@@ -183,18 +150,15 @@ fn copied_first(row: &[u8], src: &[u8]) -> usize
 fn filled_scan(row: &[u8], fill: u8) -> usize
     ensures { result ≡ first_wrong row.now (λ c. fill) }
 {
-    let n = row.len();
-    let mut i = 0;
-    while i < n {
-        if row[i] != fill {
+    for (i, b) in row.iter().enumerate() {
+        if *b != fill {
             return i;
         }
-        i += 1;
     }
-    n
+    row.len()
 }
 
-// How many columns are right for sure, by parts of 8, where every one is to be `fill`.
+// How many columns are right for sure, by parts of 8, where every one is to be `fill`. The same loop.
 fn filled_right_8(row: &[u8], fill: u8) -> usize
     ensures { (result ≤ length row.now) × Right row.now (λ c. fill) result }
 {
@@ -203,7 +167,7 @@ fn filled_right_8(row: &[u8], fill: u8) -> usize
     let mut at = 0;
     while 8 <= n - at {
         let end = at + 8;
-        if parts::apart(&row[at..end], &src, 8) != 0 {
+        if parts::apart::<8>(&row[at..end], &src) != 0 {
             return at;
         }
         at = end;
@@ -255,7 +219,7 @@ pub fn taken_row(
 {
     let start = line * stride;
     let n = row.len();
-    let most = stride / step(taken);
+    let most = stride / taken.step();
     let found = taken_first(taken, &row[0..most], &plane[start..start + stride]);
     if found < most {
         return found;

@@ -16,7 +16,8 @@ use mir.Val.{Fits, SFits, to_z, of_z}
 use mir.Facts.{to_z-of_z, to_z_pos}
 use Rattle.colour.specs.Whole.{◌÷◌, clamp}
 use Rattle.colour.specs.Colour.{red_of, green_of, blue_of, reverse_of}
-use Rattle.colour.specs.Products.{red_product, green_u_product, green_v_product, blue_product, ruled, red_share_of, green_share_of, blue_share_of, channel_of, shade_of, Share}
+use Rattle.colour.specs.declared.products.TheConstants.{RED_V, GREEN_U, GREEN_V, BLUE_U}
+use Rattle.colour.specs.Products.{red_product, green_u_product, green_v_product, blue_product, ruled, red_v, green_u, green_v, blue_u, red_share_of, green_share_of, blue_share_of, channel_of, shade_of, Share, Tables}
 use Rattle.colour.proofs.Whole.{diff, sub_diff, sign, differences, wholes}
 
 -- ---- a table's entry is its rule's number
@@ -83,26 +84,26 @@ pub passed : {s z : ℤ} → Share s z → to_z w16 (of_z w16 s) ≡ z
 passed {s} h = let small = h.small in let f : SFits w16 s = record { sfits = omega arith } in to_z-of_z f ∙ h.is
 
 -- one product from its table
-module _ (f : ℕ → ℤ) (small : (c : ℕ) → c < 256 → mag (f c) < 65536) {t : List ℤ} {k c : ℕ} (is : t ≡ ruled f 0 256) (at : k ≡ c) (h : k < 256) where
-  pub one_small : mag (to_z w32 (of_z w32 (get_or t k (pos 0)))) < 65536
-  one_small = let s = small c (omega arith) in rw (entry f is at h, kept (f c) s) s
+module _ (f : ℕ → ℤ) (small : (c : ℕ) → c < 256 → mag (f c) < 65536) {t : List ℤ} {c : ℕ} (is : t ≡ ruled f 0 256) (h : c < 256) where
+  pub one_small : mag (to_z w32 (of_z w32 (get_or t c (pos 0)))) < 65536
+  one_small = let s = small c h in rw (entry f is refl h, kept (f c) s) s
 
-  pub one_shared : {s : ℤ} → s ≡ (to_z w32 (of_z w32 (get_or t k (pos 0)))) ÷ 256 → Share (to_z w16 (of_z w16 s)) (f c ÷ 256)
-  one_shared e = shared (f c) (entry f is at h) (small c (omega arith)) e
+  pub one_shared : {s : ℤ} → s ≡ (to_z w32 (of_z w32 (get_or t c (pos 0)))) ÷ 256 → Share (to_z w16 (of_z w16 s)) (f c ÷ 256)
+  one_shared e = shared (f c) (entry f is refl h) (small c h) e
 
 -- the sum of one product from each of two tables
-module _ (f g : ℕ → ℤ) (fs : (c : ℕ) → c < 256 → mag (f c) < 65536) (gs : (c : ℕ) → c < 256 → mag (g c) < 65536) (both : (a b : ℕ) → a < 256 → b < 256 → mag (f a +ℤ g b) < 65536) {t r : List ℤ} {k j a b : ℕ} (is : t ≡ ruled f 0 256) (js : r ≡ ruled g 0 256) (at : k ≡ a) (bt : j ≡ b) (hk : k < 256) (hj : j < 256) where
-  sum : to_z w32 (of_z w32 (get_or t k (pos 0))) +ℤ to_z w32 (of_z w32 (get_or r j (pos 0))) ≡ f a +ℤ g b
-  sum = rw (entry f is at hk, entry g js bt hj, kept (f a) (fs a (omega arith)), kept (g b) (gs b (omega arith)))
+module _ (f g : ℕ → ℤ) (fs : (c : ℕ) → c < 256 → mag (f c) < 65536) (gs : (c : ℕ) → c < 256 → mag (g c) < 65536) (both : (a b : ℕ) → a < 256 → b < 256 → mag (f a +ℤ g b) < 65536) {t r : List ℤ} {a b : ℕ} (is : t ≡ ruled f 0 256) (js : r ≡ ruled g 0 256) (ha : a < 256) (hb : b < 256) where
+  sum : to_z w32 (of_z w32 (get_or t a (pos 0))) +ℤ to_z w32 (of_z w32 (get_or r b (pos 0))) ≡ f a +ℤ g b
+  sum = rw (entry f is refl ha, entry g js refl hb, kept (f a) (fs a ha), kept (g b) (gs b hb))
 
-  pub sum_fits : SFits w32 (to_z w32 (of_z w32 (get_or t k (pos 0))) +ℤ to_z w32 (of_z w32 (get_or r j (pos 0))))
-  sum_fits = let s = both a b (omega arith) (omega arith) in rw sum (record { sfits = omega arith })
+  pub sum_fits : SFits w32 (to_z w32 (of_z w32 (get_or t a (pos 0))) +ℤ to_z w32 (of_z w32 (get_or r b (pos 0))))
+  sum_fits = let s = both a b ha hb in rw sum (record { sfits = omega arith })
 
-  pub sum_small : mag (to_z w32 (of_z w32 (to_z w32 (of_z w32 (get_or t k (pos 0))) +ℤ to_z w32 (of_z w32 (get_or r j (pos 0)))))) < 65536
-  sum_small = let s = both a b (omega arith) (omega arith) in rw (sum, kept (f a +ℤ g b) s) s
+  pub sum_small : mag (to_z w32 (of_z w32 (to_z w32 (of_z w32 (get_or t a (pos 0))) +ℤ to_z w32 (of_z w32 (get_or r b (pos 0)))))) < 65536
+  sum_small = let s = both a b ha hb in rw (sum, kept (f a +ℤ g b) s) s
 
-  pub sum_shared : {s : ℤ} → s ≡ (to_z w32 (of_z w32 (to_z w32 (of_z w32 (get_or t k (pos 0))) +ℤ to_z w32 (of_z w32 (get_or r j (pos 0)))))) ÷ 256 → Share (to_z w16 (of_z w16 s)) ((f a +ℤ g b) ÷ 256)
-  sum_shared e = shared (f a +ℤ g b) sum (both a b (omega arith) (omega arith)) e
+  pub sum_shared : {s : ℤ} → s ≡ (to_z w32 (of_z w32 (to_z w32 (of_z w32 (get_or t a (pos 0))) +ℤ to_z w32 (of_z w32 (get_or r b (pos 0)))))) ÷ 256 → Share (to_z w16 (of_z w16 s)) ((f a +ℤ g b) ÷ 256)
+  sum_shared e = shared (f a +ℤ g b) sum (both a b ha hb) e
 
 -- ---- a channel, clamped: below 0, from 0 to 254, above
 
@@ -171,3 +172,9 @@ module _ (y u v : ℕ) where
   pub reverse_shared : shade_of y (red_share_of v) (green_share_of u v) (blue_share_of u) ≡ reverse_of y u v
   unfolding shade_of reverse_of
   reverse_shared = λ i. red_shared i ∷ green_shared i ∷ blue_shared i ∷ 255 ∷ []
+
+-- ---- all 1,024 entries are the products
+
+pub tables_exact : Tables RED_V GREEN_U GREEN_V BLUE_U
+unfolding red_v green_u green_v blue_u
+tables_exact = record { red = refl; green_u_lem = refl; green_v_lem = refl; blue = refl }

@@ -27,14 +27,14 @@ ghost use Rattle.colour.specs.Products.{
 };
 
 // Which colour rules: full range, as AVC444 has them, or BT.601 of limited range, as video has them.
-#[derive(Clone, Copy)]
+#[derive(Clone, Copy, Debug, PartialEq, Eq)]
 pub enum Matrix {
     Full,
     Limited,
 }
 
 #[repr(C)]
-#[derive(Clone, Copy)]
+#[derive(Clone, Copy, Debug, PartialEq, Eq)]
 pub struct Yuv {
     pub y: u8,
     pub u: u8,
@@ -44,67 +44,47 @@ pub struct Yuv {
 // A pixel by value: red, green, blue, alpha.
 pub type Rgba = [u8; 4];
 
-// A product for each chroma byte.
-pub type Table = [i32; 256];
+pub use products::Table;
 
 // The four chroma samples of a 2x2 block: the even-even one, then right, below, diagonal.
-#[derive(Clone, Copy)]
+#[derive(Clone, Copy, Debug, PartialEq, Eq)]
 pub struct Block {
     pub samples: [u8; 4],
 }
 
 // What the filter answers: the value, and whether it was applied.
+// A flag beside the value, and no Option: C is handed it as it is, and a value that is kept is one too.
 #[repr(C)]
-#[derive(Clone, Copy)]
+#[derive(Clone, Copy, Debug, PartialEq, Eq)]
 pub struct Undone {
     pub value: u8,
     pub applied: bool,
-}
-
-fn wide(x: u8) -> u16
-    ensures { (result ≡ x) × (result < 256) }
-{
-    x as u16
-}
-
-// plus - minus, or 0 where that is below zero.
-fn above(plus: u16, minus: u16) -> u16
-    ensures { result ≡ plus - minus }
-{
-    if plus < minus { 0 } else { plus - minus }
-}
-
-// x, at most 255.
-fn byte(x: u16) -> u8
-    ensures { result ≡ min x 255 }
-{
-    if x < 255 { x as u8 } else { 255 }
 }
 
 // plus - minus, clamped to a byte: `clamp_channel` on a difference.
 fn fit(plus: u16, minus: u16) -> u8
     ensures { result ≡ min (plus - minus) 255 }
 {
-    byte(above(plus, minus))
+    plus.saturating_sub(minus).min(255) as u8
 }
 
 fn luma(r: u8, g: u8, b: u8) -> u8
     ensures { result ≡ (54 * r + 183 * g + 18 * b) / 256 }
 {
-    ((54 * wide(r) + 183 * wide(g) + 18 * wide(b)) / 256) as u8
+    ((54 * u16::from(r) + 183 * u16::from(g) + 18 * u16::from(b)) / 256) as u8
 }
 
 // 32768 is 128 x 256: with it no sum is below zero, nor any answer above 255, so that there is nothing to clamp.
 fn chroma_u(r: u8, g: u8, b: u8) -> u8
     ensures { result ≡ (32768 + 128 * b - (29 * r + 99 * g)) / 256 }
 {
-    ((32768 + 128 * wide(b) - (29 * wide(r) + 99 * wide(g))) / 256) as u8
+    ((32768 + 128 * u16::from(b) - (29 * u16::from(r) + 99 * u16::from(g))) / 256) as u8
 }
 
 fn chroma_v(r: u8, g: u8, b: u8) -> u8
     ensures { result ≡ (32768 + 128 * r - (116 * g + 12 * b)) / 256 }
 {
-    ((32768 + 128 * wide(r) - (116 * wide(g) + 12 * wide(b))) / 256) as u8
+    ((32768 + 128 * u16::from(r) - (116 * u16::from(g) + 12 * u16::from(b))) / 256) as u8
 }
 
 // Y, U and V of a colour. Ports `rgb_to_yuv`.
@@ -135,63 +115,53 @@ fn share(p: i32) -> i16
     (p >> 8) as i16
 }
 
-// A chroma byte as its place in a table.
-fn place(c: u8) -> usize
-    ensures { (result ≡ c) × (result < 256) }
+// The four tables, each with its rule.
+pub fn red_v() -> &'static Table
+    ensures { result.now ≡ red_v }
 {
-    c as usize
+    &products::PRODUCTS.red_v
 }
 
-// The four tables by value, each with its rule. A conversion asks for them once and lends them on: a table is made anew at each call.
-pub fn red_v() -> Table
-    ensures { result ≡ red_v }
+pub fn green_u() -> &'static Table
+    ensures { result.now ≡ green_u }
 {
-    products::RED_V
+    &products::PRODUCTS.green_u
 }
 
-pub fn green_u() -> Table
-    ensures { result ≡ green_u }
+pub fn green_v() -> &'static Table
+    ensures { result.now ≡ green_v }
 {
-    products::GREEN_U
+    &products::PRODUCTS.green_v
 }
 
-pub fn green_v() -> Table
-    ensures { result ≡ green_v }
+pub fn blue_u() -> &'static Table
+    ensures { result.now ≡ blue_u }
 {
-    products::GREEN_V
-}
-
-pub fn blue_u() -> Table
-    ensures { result ≡ blue_u }
-{
-    products::BLUE_U
+    &products::PRODUCTS.blue_u
 }
 
 // What V adds to red.
-pub fn red_share(v: u8, rv: &Table) -> i16
-    requires { rv.now ≡ red_v }
+pub fn red_share(v: u8) -> i16
     ensures { Share result (red_share_of v) }
 {
-    let p = rv[place(v)];
+    let p = red_v()[v as usize];
     share(p)
 }
 
 // What U and V add to green: the sum of both products is rounded down, and not each of them.
-pub fn green_share(u: u8, v: u8, gu: &Table, gv: &Table) -> i16
-    requires { (gu.now ≡ green_u) × (gv.now ≡ green_v) }
+pub fn green_share(u: u8, v: u8) -> i16
     ensures { Share result (green_share_of u v) }
 {
-    let p = gu[place(u)];
-    let q = gv[place(v)];
+    let p = green_u()[u as usize];
+    let q = green_v()[v as usize];
     share(p + q)
 }
 
 // What U adds to blue.
-pub fn blue_share(u: u8, bu: &Table) -> i16
-    requires { bu.now ≡ blue_u }
+pub fn blue_share(u: u8) -> i16
     ensures { Share result (blue_share_of u) }
 {
-    let p = bu[place(u)];
+    let p = blue_u()[u as usize];
     share(p)
 }
 
@@ -222,13 +192,9 @@ pub fn shade(y: u8, r: i16, g: i16, b: i16) -> Rgba
 pub fn reverse(y: u8, u: u8, v: u8) -> Rgba
     ensures { result ≡ reverse_of y u v }
 {
-    let rv = red_v();
-    let gu = green_u();
-    let gv = green_v();
-    let bu = blue_u();
-    let r = red_share(v, &rv);
-    let g = green_share(u, v, &gu, &gv);
-    let b = blue_share(u, &bu);
+    let r = red_share(v);
+    let g = green_share(u, v);
+    let b = blue_share(u);
     shade(y, r, g, b)
 }
 
@@ -236,25 +202,19 @@ pub fn reverse(y: u8, u: u8, v: u8) -> Rgba
 pub fn average(b: Block) -> u8
     ensures { result ≡ average_of b.samples }
 {
-    let p = wide(b.samples[0]);
-    let q = wide(b.samples[1]);
-    let r = wide(b.samples[2]);
-    let s = wide(b.samples[3]);
+    let p = u16::from(b.samples[0]);
+    let q = u16::from(b.samples[1]);
+    let r = u16::from(b.samples[2]);
+    let s = u16::from(b.samples[3]);
     ((p + q + r + s + 2) / 4) as u8
-}
-
-fn abs_diff(a: u8, b: u8) -> u8
-    ensures { result ≡ (a - b) + (b - a) }
-{
-    if a < b { b - a } else { a - b }
 }
 
 // a where undoing the average changes it by less than 30, else the change made: s is the sum of the other samples.
 fn filtered(a: u8, s: u16) -> Undone
     ensures { result ≡ undone_of a s }
 {
-    let t = fit(4 * wide(a), s);
-    if abs_diff(t, a) < 30 {
+    let t = fit(4 * u16::from(a), s);
+    if t.abs_diff(a) < 30 {
         return Undone {
             value: a,
             applied: false,
@@ -270,9 +230,9 @@ fn filtered(a: u8, s: u16) -> Undone
 fn others(b: Block) -> u16
     ensures { result ≡ get_or b.samples 1 0 + get_or b.samples 2 0 + get_or b.samples 3 0 }
 {
-    let p = wide(b.samples[1]);
-    let q = wide(b.samples[2]);
-    let r = wide(b.samples[3]);
+    let p = u16::from(b.samples[1]);
+    let q = u16::from(b.samples[2]);
+    let r = u16::from(b.samples[3]);
     p + q + r
 }
 

@@ -5,25 +5,26 @@
 ghost use Rattle.std.specs.Prelude.{◌≡◌, ◌+◌, ◌*◌, ◌-◌, ◌/◌, min};
 ghost use Rattle.colour.specs.Limited.{limited_forward_of, limited_reverse_of};
 
-use crate::{Rgba, Yuv, fit, wide};
+use crate::{Rgba, Yuv, fit};
 
+// As in full range, but for the numbers: they stand in each formula, as the rules print them, since a function over them would be no plainer.
 fn luma(r: u8, g: u8, b: u8) -> u8
     ensures { result ≡ (66 * r + 129 * g + 25 * b + 128) / 256 + 16 }
 {
-    ((66 * wide(r) + 129 * wide(g) + 25 * wide(b) + 128) / 256 + 16) as u8
+    ((66 * u16::from(r) + 129 * u16::from(g) + 25 * u16::from(b) + 128) / 256 + 16) as u8
 }
 
 // 32896 is 128 x 256 and the 128 that rounds: with it no sum is below zero, nor any answer above 240.
 fn chroma_u(r: u8, g: u8, b: u8) -> u8
     ensures { result ≡ (32896 + 112 * b - (38 * r + 74 * g)) / 256 }
 {
-    ((32896 + 112 * wide(b) - (38 * wide(r) + 74 * wide(g))) / 256) as u8
+    ((32896 + 112 * u16::from(b) - (38 * u16::from(r) + 74 * u16::from(g))) / 256) as u8
 }
 
 fn chroma_v(r: u8, g: u8, b: u8) -> u8
     ensures { result ≡ (32896 + 112 * r - (94 * g + 18 * b)) / 256 }
 {
-    ((32896 + 112 * wide(r) - (94 * wide(g) + 18 * wide(b))) / 256) as u8
+    ((32896 + 112 * u16::from(r) - (94 * u16::from(g) + 18 * u16::from(b))) / 256) as u8
 }
 
 // Y, U and V of a colour.
@@ -41,7 +42,7 @@ fn red(y: u8, v: u8) -> u8
     ensures { result ≡ min (y + v + (42 * y + 153 * v + 96) / 256 - 223) 255 }
 {
     fit(
-        wide(y) + wide(v) + (42 * wide(y) + 153 * wide(v) + 96) / 256,
+        u16::from(y) + u16::from(v) + (42 * u16::from(y) + 153 * u16::from(v) + 96) / 256,
         223,
     )
 }
@@ -51,8 +52,8 @@ fn green(y: u8, u: u8, v: u8) -> u8
     ensures { result ≡ min (y + (42 * y + 48 * v + 34784 - 100 * u) / 256 - v) 255 }
 {
     fit(
-        wide(y) + (42 * wide(y) + 48 * wide(v) + 34784 - 100 * wide(u)) / 256,
-        wide(v),
+        u16::from(y) + (42 * u16::from(y) + 48 * u16::from(v) + 34784 - 100 * u16::from(u)) / 256,
+        u16::from(v),
     )
 }
 
@@ -61,7 +62,7 @@ fn blue(y: u8, u: u8) -> u8
     ensures { result ≡ min (y + 2 * u + (42 * y + 4 * u + 224) / 256 - 277) 255 }
 {
     fit(
-        wide(y) + 2 * wide(u) + (42 * wide(y) + 4 * wide(u) + 224) / 256,
+        u16::from(y) + 2 * u16::from(u) + (42 * u16::from(y) + 4 * u16::from(u) + 224) / 256,
         277,
     )
 }

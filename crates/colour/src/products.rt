@@ -1,6 +1,24 @@
 // The four products of the reverse transform for every chroma byte, as the exercise sheet prints them. Here u = U - 128 and v = V - 128.
 // Eight entries a line; behind each line the chroma byte of its first entry. docs/PRODUCTS.md has the same numbers as one table.
 
+// A product for each chroma byte.
+pub type Table = [i32; 256];
+
+// The four tables, side by side: a loop that looks into all of them keeps one address.
+pub struct Products {
+    pub red_v: Table,
+    pub green_u: Table,
+    pub green_v: Table,
+    pub blue_u: Table,
+}
+
+pub static PRODUCTS: Products = Products {
+    red_v: RED_V,
+    green_u: GREEN_U,
+    green_v: GREEN_V,
+    blue_u: BLUE_U,
+};
+
 // 403 v, for red.
 #[rattlefmt::skip]
 pub const RED_V: [i32; 256] = [

@@ -21,6 +21,15 @@ fn put(out: &mut [u8], at: usize, b: u8) -> usize
     at + 1
 }
 
+fn put_bytes(out: &mut [u8], at: usize, text: &[u8]) -> usize
+    requires { at + length text.now ≤ length out.old }
+    ensures { Put out.old out.new at result text.now }
+{
+    let end = at + text.len();
+    out[at..end].copy_from_slice(text);
+    end
+}
+
 fn put_decimal(out: &mut [u8], at: usize, n: u8) -> usize
     requires { at + 3 ≤ length out.old }
     ensures put { Put out.old out.new at result (decimal_of n) }
@@ -68,13 +77,8 @@ fn put_short(out: &mut [u8], at: usize, n: u8) -> usize
     ensures put { Put out.old out.new at result (short_of n) }
     ensures upper_bound { result ≤ at + 10 }
 {
-    let s = put(out, at, b's');
-    let h = put(out, s, b'h');
-    let o = put(out, h, b'o');
-    let r = put(out, o, b'r');
-    let t = put(out, r, b't');
-    let gap = put(out, t, b' ');
-    put_number(out, gap, n, b'\n')
+    let a = put_bytes(out, at, b"short ");
+    put_number(out, a, n, b'\n')
 }
 
 // All lines of rgb, from the start of out: a line has at most 24 bytes for 3 of rgb, and the last one at most 10.
@@ -84,16 +88,13 @@ fn put_text(out: &mut [u8], rgb: &[u8]) -> usize
     ensures out_after { take result out.new ≡ text_of rgb.now }
 {
     let mut at = 0;
-    let mut i = 0;
-    while rgb.len() - i >= 3 {
-        at = put_line(out, at, rgb[i], rgb[i + 1], rgb[i + 2]);
-        i += 3;
+    for k in 0..rgb.len() / 3 {
+        at = put_line(out, at, rgb[3 * k], rgb[3 * k + 1], rgb[3 * k + 2]);
     }
-    let left = rgb.len() - i;
-    if left == 0 {
-        return at;
+    match rgb.len() % 3 {
+        0 => at,
+        left => put_short(out, at, left as u8),
     }
-    put_short(out, at, left as u8)
 }
 
 // Whether n bytes fill the buffer, so that there may be more: 1,024 triples, and what follows has lines of its own.
@@ -104,7 +105,8 @@ fn full(rgb: &[u8; 3072], n: usize) -> bool
     n == rgb.len()
 }
 
-// Reads until buf is full or the input ends, and answers how many bytes it put at the start of buf.
+// Reads until buf is full or the input ends, and answers how many bytes it put at the start of buf. (No `for`: how far a turn comes is what
+// the input gives.)
 fn read_full(input: &mut impl Read, buf: &mut [u8]) -> io::Result<usize>
     ensures { IfOk result (λ n. IsPrefixLen n buf.new) }
 {
@@ -129,12 +131,12 @@ fn step(rt: &HostRuntime) -> io::Result<bool> {
     Ok(full(&rgb, n))
 }
 
-// A proved loop has to end, and nothing says that the input does. So it counts its turns down, from a number that no run
-// uses up.
+// A proved loop has to end, and nothing says that the input does. So it counts its turns, up to a number that no run reaches.
 fn main(rt: HostRuntime) -> io::Result<()> {
-    let mut turns = u64::MAX;
-    while turns > 0 && step(&rt)? {
-        turns -= 1;
+    for _ in 0..u64::MAX {
+        if !step(&rt)? {
+            break;
+        }
     }
     Ok(())
 }

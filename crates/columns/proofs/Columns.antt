@@ -1,5 +1,5 @@
 -- Loops over the columns of a row that was lent, each turn through a part of it or by a word: what a turn leaves. Assumes nothing.
-use Prim.Native.Nat.{ℕ, ◌+◌, ◌-◌, ◌*◌, ◌%◌, ◌<◌, ◌≤◌, min}
+use Prim.Native.Nat.{ℕ, ◌+◌, ◌-◌, ◌*◌, ◌%◌, ◌<◌, ◌≤◌}
 use native.Mathlib.Omega.{arith}
 use mathlib.Core.Path.{◌≡◌, refl, sym, ap, ◌∙◌, subst}
 use mathlib.Core.Bool.{Bool, true, cond, ◌&&◌, and-true}
@@ -78,10 +78,6 @@ module _ (p : ℕ → Bool) (s : ℕ → ℕ) (xs : List ℕ) where
           ∙ ap (λ (v : ℕ). cond (t j) (u j) v) (get_or-take (e - a) (drop a was) j 0 (omega arith) ∙ get_or-drop a was j 0 ∙ was_at j h)
           ∙ cond_ext (t j) (p (a + j)) (u j) (s (a + j)) _ (sym (same j h)) (from j h)
           ∙ sym (ap (λ (b : Bool). cond (b && p (a + j)) (s (a + j)) (get_or xs (a + j) 0)) (lt-ltb (a + j) e h))
-
--- a turn goes on: less of the n places is left
-pub turn_falls : {n m col r : ℕ} (most : ℕ) → 0 < most → m ≡ n → col < m → r ≡ min (m - col) most → n - (col + r) < n - col
-turn_falls most pos same lt is = omega arith
 
 -- the first n places, each of which was written
 pub below-every : (s : ℕ → ℕ) (xs : List ℕ) {ys : List ℕ} (n : ℕ) → ys ≡ paint (λ k. ltb k n) s xs → Below every s xs ys n

@@ -11,7 +11,7 @@ use lib.Seq.{get_or-take, get_or-drop}
 use borrow.Author.Tests.{lt-ltb, eq-eqb, eqb-true}
 use Rattle.lent.specs.Paint.{paint}
 use Rattle.lent.proofs.Bools.{split, never_true, cond-true, cond-false}
-use Rattle.lent.proofs.Paint.{paint_next, length-paint, get_d_paint, paint_is}
+use Rattle.lent.proofs.Paint.{length-paint, get_d_paint, paint_is}
 use Rattle.lent.proofs.SoFar.{SoFar, so_far_more}
 use Rattle.columns.specs.Turns.{odd, even, woven}
 
@@ -46,16 +46,6 @@ woven-odd e o k h = ap (λ (b : Bool). cond b (get_or o (k / 2) 0) (get_or e (k 
 pub woven-even : (e o : List ℕ) (k : ℕ) → k % 2 ≡ 0 → woven e o k ≡ get_or e (k / 2) 0
 unfolding woven
 woven-even e o k h = ap (λ (b : Bool). cond b (get_or o (k / 2) 0) (get_or e (k / 2) 0)) (not-odd k h)
-
--- two places more
-pub weave_next : (e o xs : List ℕ) (i : ℕ) → 2 * i + 1 < length xs → set (set (paint (λ k. ltb k (2 * i)) (woven e o) xs) (2 * i) (get_or e i 0)) (2 * i + 1) (get_or o i 0) ≡ paint (λ k. ltb k (2 * (i + 1))) (woven e o) xs
-weave_next e o xs i h =
-    let half : 2 * i / 2 ≡ i = omega arith in
-    let half' : (2 * i + 1) / 2 ≡ i = omega arith in
-    let more : 2 * i + 1 + 1 ≡ 2 * (i + 1) = omega arith in
-    ap (λ (l : List ℕ). set l (2 * i + 1) (get_or o i 0)) (paint_next (woven e o) xs (2 * i) _ (omega arith) (ap (λ (j : ℕ). get_or e j 0) (sym half) ∙ sym (woven-even e o (2 * i) (omega arith))))
-    ∙ paint_next (woven e o) xs (2 * i + 1) _ h (ap (λ (j : ℕ). get_or o j 0) (sym half') ∙ sym (woven-odd e o (2 * i + 1) (omega arith)))
-    ∙ ap (λ (m : ℕ). paint (λ k. ltb k m) (woven e o) xs) more
 
 pub parity : (k : ℕ) → (k % 2 ≡ 1) ⊎ (k % 2 ≡ 0)
 parity k = ⊎_elim (λ lt. inr (omega arith)) (λ ge. inl (omega arith)) (split (k % 2) 1)

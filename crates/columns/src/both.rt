@@ -4,30 +4,26 @@
 // partly over a store just before it waits for that store. A load of V at the place, within a page, of a store to U just before it may wait too.
 ghost use Rattle.std.specs.Prelude.{◌≡◌, ◌+◌, ◌*◌, ◌/◌, ◌<◌, ◌≤◌, ltb, length, get_or};
 ghost use Rattle.lent.specs.Paint.{paint};
+ghost use Rattle.lent.specs.Sizes.{round_up};
 ghost use Rattle.columns.specs.Turns.{odd, new_odds};
 ghost use Rattle.columns.specs.Fits.{OddsFit};
 
-// The first n pairs of t become those of `old`, with the bytes of `from` at the odd places. For a count that is fixed. (none: see `missing`)
-fn mix(t: &mut [u8], old: &[u8], from: &[u8], none: u16, n: usize)
+use crate::Zero;
+
+// The first n pairs of t become those of `old`, with the bytes of `from` at the odd places. For a count that is fixed.
+fn mix(t: &mut [u8], old: &[u8], from: &[u8], none: Zero, n: usize)
     requires n_in_bounds { (2 * n ≤ length t.old) × (2 * n ≤ length old.now) × (n ≤ length from.now) }
-    requires none_value { none ≡ 0 }
     ensures { t.new ≡ paint (λ k. ltb k (2 * n)) (new_odds from.now old.now) t.old }
 {
-    let mut i: usize = 0;
-    while i < n {
-        lent::words::put_two(
-            t,
-            2 * i,
-            crate::mixed(lent::words::two(old, 2 * i), from[i], none),
-        );
-        i += 1;
+    for i in 0..n {
+        let pair = crate::mixed(lent::words::two(old, 2 * i), from[i], none);
+        lent::words::put_two(t, 2 * i, pair);
     }
 }
 
 // 16 places of each.
-fn put_16(u: &mut [u8], v: &mut [u8], us: &[u8], vs: &[u8], none: u16)
+fn put_16(u: &mut [u8], v: &mut [u8], us: &[u8], vs: &[u8], none: Zero)
     requires u_len { (length u.old ≡ 16) × (length v.old ≡ 16) × (length us.now ≡ 8) × (length vs.now ≡ 8) }
-    requires none_value { none ≡ 0 }
     ensures u { u.new ≡ paint odd (λ k. get_or us.now (k / 2) 0) u.old }
     ensures v { v.new ≡ paint odd (λ k. get_or vs.now (k / 2) 0) v.old }
 {
@@ -39,16 +35,14 @@ fn put_16(u: &mut [u8], v: &mut [u8], us: &[u8], vs: &[u8], none: u16)
     lent::copy_front(v, &new_v, 16);
 }
 
-// Both rows by turns of 16 places, up to the pair `most` or somewhat further. Answers the pair that comes next.
-fn put_turns(u: &mut [u8], v: &mut [u8], us: &[u8], vs: &[u8], none: u16, most: usize) -> usize
+// Both rows by turns of 16 places, up to the pair `most` or somewhat further.
+fn put_turns(u: &mut [u8], v: &mut [u8], us: &[u8], vs: &[u8], none: Zero, most: usize)
     requires u_len { (length u.old ≡ 2 * most + 16) × (length v.old ≡ 2 * most + 16) }
-    requires most_in_bounds { (most + 8 ≤ length us.now) × (most + 8 ≤ length vs.now) × (none ≡ 0) }
-    ensures lower_bound { (most ≤ result) × (result < most + 8) }
-    ensures u { u.new ≡ paint (λ k. ltb k (2 * result)) (new_odds us.now u.old) u.old }
-    ensures v { v.new ≡ paint (λ k. ltb k (2 * result)) (new_odds vs.now v.old) v.old }
+    requires most_in_bounds { (most + 8 ≤ length us.now) × (most + 8 ≤ length vs.now) }
+    ensures u { u.new ≡ paint (λ k. ltb k (2 * round_up 8 most)) (new_odds us.now u.old) u.old }
+    ensures v { v.new ≡ paint (λ k. ltb k (2 * round_up 8 most)) (new_odds vs.now v.old) v.old }
 {
-    let mut i: usize = 0;
-    while i < most {
+    for i in (0..most).step_by(8) {
         let at = 2 * i;
         put_16(
             &mut u[at..at + 16],
@@ -57,15 +51,13 @@ fn put_turns(u: &mut [u8], v: &mut [u8], us: &[u8], vs: &[u8], none: u16, most: 
             &vs[i..i + 8],
             none,
         );
-        i += 8;
     }
-    i
 }
 
-// All of two rows of 2 * most + 16 places. (none: see `missing`)
-fn put_many(u: &mut [u8], v: &mut [u8], us: &[u8], vs: &[u8], none: u16, most: usize)
+// All of two rows of 2 * most + 16 places.
+fn put_many(u: &mut [u8], v: &mut [u8], us: &[u8], vs: &[u8], none: Zero, most: usize)
     requires u_len { (length u.old ≡ 2 * most + 16) × (length v.old ≡ 2 * most + 16) }
-    requires most_in_bounds { (most + 8 ≤ length us.now) × (most + 8 ≤ length vs.now) × (none ≡ 0) }
+    requires most_in_bounds { (most + 8 ≤ length us.now) × (most + 8 ≤ length vs.now) }
     ensures u { u.new ≡ paint odd (λ k. get_or us.now (k / 2) 0) u.old }
     ensures v { v.new ≡ paint odd (λ k. get_or vs.now (k / 2) 0) v.old }
 {
@@ -99,11 +91,9 @@ fn put_few(u: &mut [u8], v: &mut [u8], us: &[u8], vs: &[u8])
     ensures v { v.new ≡ paint odd (λ k. get_or vs.now (k / 2) 0) v.old }
 {
     let pairs = u.len() / 2;
-    let mut i: usize = 0;
-    while i < pairs {
+    for i in 0..pairs {
         u[2 * i + 1] = us[i];
         v[2 * i + 1] = vs[i];
-        i += 1;
     }
 }
 
@@ -115,15 +105,13 @@ pub fn put_odds(u: &mut [u8], v: &mut [u8], us: &[u8], vs: &[u8])
     ensures v { v.new ≡ paint odd (λ k. get_or vs.now (k / 2) 0) v.old }
 {
     let n = u.len() / 2;
-    if 8 <= n {
-        if n < 64 {
-            let none = crate::missing(n, us.len());
-            put_many(u, v, us, vs, none, n - 8);
-            return;
-        }
-    }
     if n < 8 {
         put_few(u, v, us, vs);
+        return;
+    }
+    if n < 64 {
+        let none = crate::missing(n, us.len());
+        put_many(u, v, us, vs, none, n - 8);
         return;
     }
     crate::put_odds(u, us);

@@ -13,22 +13,28 @@ ghost use Rattle.lent.specs.Paint.{paint, every};
 ghost use Rattle.columns.specs.Turns.{odd, even, woven};
 ghost use Rattle.columns.specs.Fits.{OddsFit, EvensFit};
 
-// Whether m bytes are too few for n pairs, as a number: 0, since OddsFit says that they are not. The compiler does not know that, and so
-// does not leave out the store of an even byte that stays: without it a row would be stores of every second byte, which are no vector
-// code on aarch64.
-fn missing(n: usize, m: usize) -> u16
-    requires { n ≤ m }
-    ensures { result ≡ 0 }
-{
-    if m < n { 1 } else { 0 }
+// A number that is 0, which the compiler does not know. With it in a pair the compiler does not leave out the store of an even byte that stays:
+// else a row would be stores of every second byte, which are no vector code on aarch64.
+#[derive(Clone, Copy)]
+struct Zero {
+    number: u16,
+    ghost is_zero: { number ≡ 0 },
 }
 
-// The low byte of a pair stays, the high one is new. (none: 0, see `missing`)
-fn mixed(w: u16, b: u8, none: u16) -> u16
-    requires { none ≡ 0 }
+// Whether m bytes are too few for n pairs, as a number: they are not.
+fn missing(n: usize, m: usize) -> Zero
+    requires { n ≤ m }
+{
+    Zero {
+        number: u16::from(m < n),
+    }
+}
+
+// The low byte of a pair stays, the high one is new.
+fn mixed(w: u16, b: u8, none: Zero) -> u16
     ensures { (result % 256 ≡ w % 256) × (result / 256 ≡ b) }
 {
-    w % 256 + none + 256 * (b as u16)
+    w % 256 + none.number + 256 * u16::from(b)
 }
 
 // The odd places of dst become the bytes of `from`. Each pair is read and written as one word.
@@ -38,14 +44,9 @@ pub fn put_odds(dst: &mut [u8], from: &[u8])
 {
     let n = dst.len() / 2;
     let none = missing(n, from.len());
-    let mut i: usize = 0;
-    while i < n {
-        lent::words::put_two(
-            dst,
-            2 * i,
-            mixed(lent::words::two(dst, 2 * i), from[i], none),
-        );
-        i += 1;
+    for i in 0..n {
+        let pair = mixed(lent::words::two(dst, 2 * i), from[i], none);
+        lent::words::put_two(dst, 2 * i, pair);
     }
 }
 
@@ -54,11 +55,10 @@ pub fn put_evens(dst: &mut [u8], u: &[u8], v: &[u8], lead: usize)
     requires { EvensFit (length dst.old) (length u.now) (length v.now) lead }
     ensures { dst.new ≡ paint even (λ k. woven u.now v.now (lead + k / 2)) dst.old }
 {
-    let mut col = 0;
-    while col < dst.len() {
-        let end = col + lent::least(dst.len() - col, 252);
-        crate::weave::even_part(&mut dst[col..end], &u[col / 4..], &v[col / 4..], lead);
-        col = end;
+    let n = dst.len();
+    for col in (0..n).step_by(252) {
+        let end = col + (n - col).min(252);
+        weave::even_part(&mut dst[col..end], &u[col / 4..], &v[col / 4..], lead);
     }
 }
 
@@ -66,7 +66,8 @@ pub fn put_evens(dst: &mut [u8], u: &[u8], v: &[u8], lead: usize)
 fn quad(a: u8, b: u8, w: u16) -> u32
     ensures { (result % 256 ≡ a) × (result / 256 % 256 ≡ w % 256) × (result / 65536 % 256 ≡ b) × (result / 16777216 ≡ w / 256) }
 {
-    (a as u32) + 256 * ((w % 256) as u32) + 65536 * (b as u32) + 16777216 * ((w / 256) as u32)
+    let [low, high] = w.to_le_bytes();
+    u32::from_le_bytes([a, low, b, high])
 }
 
 // The first n fours of dst become u, odd, v, odd.
@@ -78,11 +79,9 @@ fn quads(dst: &mut [u8], odds: &[u8], u: &[u8], v: &[u8], n: usize)
     ensures { dst.new ≡ paint (λ k. ltb k (4 * n))
         (λ k. cond (odd k) (get_or odds.now (k / 2) 0) (woven u.now v.now (k / 2))) dst.old }
 {
-    let mut i: usize = 0;
-    while i < n {
+    for i in 0..n {
         let w = lent::words::two(odds, 2 * i);
         lent::words::put_four(dst, 4 * i, quad(u[i], v[i], w));
-        i += 1;
     }
 }
 
@@ -94,7 +93,7 @@ fn pair(dst: &mut [u8], evens: &[u8], odds: &[u8])
     requires dst_len_bound_3 { length dst.old ≤ 2 * length odds.now }
     ensures { dst.new ≡ paint every (woven evens.now odds.now) dst.old }
 {
-    if dst.len() == 0 {
+    if dst.is_empty() {
         return;
     }
     dst[0] = evens[0];
@@ -124,7 +123,7 @@ pub fn put_full(dst: &mut [u8], from: &[u8], u: &[u8], v: &[u8], lead: usize)
         ≡ paint every (λ k. cond (odd k) (get_or from.now (k / 2) 0) (woven u.now v.now (lead + k / 2))) dst.old }
 {
     let right = dst.len();
-    let col = lent::least(2 * lead, right);
+    let col = (2 * lead).min(right);
     pair(&mut dst[0..col], v, from);
     from_u(
         &mut dst[col..right],

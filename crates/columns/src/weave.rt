@@ -6,6 +6,18 @@ ghost use Rattle.std.specs.Prelude.{◌≡◌, ◌+◌, ◌*◌, ◌/◌, ◌%�
 ghost use Rattle.lent.specs.Paint.{paint, every};
 ghost use Rattle.columns.specs.Turns.{even, woven};
 
+// The first n bytes of dst become every STEPth byte of src, the first being src[first].
+fn every_nth<const STEP: usize>(dst: &mut [u8], src: &[u8], first: usize, n: usize)
+    requires n_in_bounds { n ≤ length dst.old }
+    requires n_in_bounds_2 { STEP * n ≤ length src.now }
+    requires first_bound { first < STEP }
+    ensures { dst.new ≡ paint (λ k. ltb k n) (λ k. get_or src.now (STEP * k + first) 0) dst.old }
+{
+    for i in 0..n {
+        dst[i] = src[STEP * i + first];
+    }
+}
+
 // The first n bytes of dst become every second byte of src, the first being src[first].
 pub fn seconds(dst: &mut [u8], src: &[u8], first: usize, n: usize)
     requires n_in_bounds { n ≤ length dst.old }
@@ -14,11 +26,7 @@ pub fn seconds(dst: &mut [u8], src: &[u8], first: usize, n: usize)
     ensures { dst.new ≡ paint (λ k. ltb k n) (λ k. get_or src.now (2 * k + first) 0)
         dst.old }
 {
-    let mut i = 0;
-    while i < n {
-        dst[i] = src[2 * i + first];
-        i += 1;
-    }
+    every_nth::<2>(dst, src, first, n);
 }
 
 // dst[2 i] is evens[i], dst[2 i + 1] is odds[i], for i below n.
@@ -29,11 +37,9 @@ fn weave(dst: &mut [u8], evens: &[u8], odds: &[u8], n: usize)
     ensures { dst.new ≡ paint (λ k. ltb k (2 * n)) (woven evens.now odds.now)
         dst.old }
 {
-    let mut i = 0;
-    while i < n {
+    for i in 0..n {
         dst[2 * i] = evens[i];
         dst[2 * i + 1] = odds[i];
-        i += 1;
     }
 }
 
@@ -50,7 +56,7 @@ pub fn even_part(dst: &mut [u8], u: &[u8], v: &[u8], lead: usize)
     let mut turns = [0u8; 128];
     let mut kept = [0u8; 128];
     let n = dst.len() / 2;
-    weave(&mut turns, u, v, (lead + n + 1) / 2);
+    weave(&mut turns, u, v, (lead + n).div_ceil(2));
     seconds(&mut kept, dst, 1, n);
     weave(dst, &turns[lead..], &kept, n);
 }
@@ -62,9 +68,5 @@ pub fn fourths_of(dst: &mut [u8], src: &[u8], first: usize)
     ensures { dst.new ≡ paint every (λ k. get_or src.now (4 * k + first) 0) dst.old }
 {
     let n = dst.len();
-    let mut i = 0;
-    while i < n {
-        dst[i] = src[4 * i + first];
-        i += 1;
-    }
+    every_nth::<4>(dst, src, first, n);
 }

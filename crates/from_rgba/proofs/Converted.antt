@@ -1,10 +1,10 @@
 -- The pixels of the picture, row after row, into one plane: what a row's part of the input says of the whole input, and one row more. All of it
 -- by either matrix: nothing here asks what the forward formula is.
 -- Assumes nothing.
-use Prim.Native.Nat.{ℕ, ◌+◌, ◌*◌, ◌/◌, ◌%◌, ◌-◌, ◌<◌, ◌≤◌}
+use Prim.Native.Nat.{ℕ, ◌+◌, ◌*◌, ◌/◌, ◌-◌, ◌<◌, ◌≤◌}
 use native.Mathlib.Nat.{add-zero, zero-add, mul_comm}
 use native.Mathlib.Omega.{arith}
-use mathlib.Core.Path.{◌≡◌, refl, sym, ap, ◌∙◌}
+use mathlib.Core.Path.{◌≡◌, refl, sym, ap, ◌∙◌, subst}
 use mathlib.Core.List.{List, ◌++◌}
 use lib.ListN.{length, get_or, take, drop}
 use lib.Seq.{get_or-take, get_or-drop}
@@ -55,15 +55,11 @@ row_fits px y u v at to line ey eu ev n to_is hp ey-is hy eu-is hu ev-is hv =
     rw (part_long px at to (omega arith) hp, part_long y line ey (omega arith) hy, part_long u line eu (omega arith) hu, part_long v line ev (omega arith) hv)
     (record { pixels = omega arith; same_u = omega arith; same_v = omega arith })
 
--- sixteens of n, one more
-pub by_sixteens : (n k : ℕ) → k % 16 ≡ 0 → k < n / 16 * 16 → ((k + 16) % 16 ≡ 0) × (k + 16 ≤ n / 16 * 16) × (n / 16 * 16 - (k + 16) < n / 16 * 16 - k)
-by_sixteens n k by-16 lt = (omega arith, omega arith, omega arith)
-
 -- the parts of a row's pass: 16 pixels, and those that are left
 module _ (px y₀ u₀ v₀ y u v : List ℕ) (fit : PixelsFit (length px) (length y₀) (length u₀) (length v₀)) (hy : length y ≡ length y₀) (hu : length u ≡ length u₀) (hv : length v ≡ length v₀) where
-  pub turn_fits : (k : ℕ) → k % 16 ≡ 0 → k < length y₀ / 16 * 16
+  pub turn_fits : (k : ℕ) → k + 16 ≤ length y₀
       → PixelsFit (length (take (4 * (k + 16) - 4 * k) (drop (4 * k) px))) (length (take (k + 16 - k) (drop k y))) (length (take (k + 16 - k) (drop k u))) (length (take (k + 16 - k) (drop k v))) × (length (take (k + 16 - k) (drop k y)) ≡ 16)
-  turn_fits k by-16 lt = (
+  turn_fits k le = (
     row_fits px y u v (4 * k) (4 * (k + 16)) k (k + 16) (k + 16) (k + 16) 16 (omega arith) (omega arith) refl (omega arith) refl (omega arith) refl (omega arith),
     part_long y k (k + 16) (omega arith) (omega arith) ∙ omega arith,
   )
@@ -83,10 +79,12 @@ module _ (m : Matrix) (px xs : List ℕ) (n : ℕ) (pick : Yuv → ℕ) (long : 
       so_far_part _ xs a e _ ordered (omega arith) before now (λ j h. ap pick (part_colour m px a (4 * a) (to - 4 * a) j refl (omega arith)))
 
   -- 16 of them
-  pub pixels_turn : {was ys : List ℕ} (k : ℕ) → k % 16 ≡ 0 → k < n / 16 * 16 → SoFar (λ j. pick (colour_at m px j)) xs was k
+  pub pixels_turn : {was ys : List ℕ} (k e : ℕ) → k + 16 ≡ e → e ≤ n → SoFar (λ j. pick (colour_at m px j)) xs was k
       → ys ≡ paint every (λ j. pick (colour_at m (take (4 * (k + 16) - 4 * k) (drop (4 * k) px)) j)) (take (k + 16 - k) (drop k was))
-      → SoFar (λ j. pick (colour_at m px j)) xs (take k was ++ (ys ++ drop (k + 16 - k) (drop k was))) (k + 16)
-  pixels_turn k by-16 lt = pixels_more k (k + 16) (4 * (k + 16)) (omega arith) (omega arith) (omega arith)
+      → SoFar (λ j. pick (colour_at m px j)) xs (take k was ++ (ys ++ drop (k + 16 - k) (drop k was))) e
+  pixels_turn {was} {ys} k e is le before now =
+      subst (λ (q : ℕ). SoFar (λ j. pick (colour_at m px j)) xs (take k was ++ (ys ++ drop (k + 16 - k) (drop k was))) q) is
+      (pixels_more k (k + 16) (4 * (k + 16)) (omega arith) (omega arith) (omega arith) before now)
 
   -- those that are left
   pub pixels_rest : {was ys : List ℕ} (k a : ℕ) → a ≡ n / 16 * 16 → k ≤ a → a ≤ k → SoFar (λ j. pick (colour_at m px j)) xs was k

@@ -15,12 +15,9 @@ fn averaged_pair(upper: u16, lower: u16) -> u16
     ensures { (result % 256 ≡ average_of (upper % 256 ∷ upper / 256 ∷ lower % 256 ∷ lower / 256 ∷ []))
         × (result / 256 ≡ upper / 256) }
 {
-    let samples = [
-        (upper % 256) as u8,
-        (upper / 256) as u8,
-        (lower % 256) as u8,
-        (lower / 256) as u8,
-    ];
+    let [a, b] = upper.to_le_bytes();
+    let [c, d] = lower.to_le_bytes();
+    let samples = [a, b, c, d];
     colour::average(colour::Block { samples }) as u16 + 256 * (upper / 256)
 }
 
@@ -33,13 +30,11 @@ fn averages_of(dst: &mut [u8; 128], rows: &[u8], at: usize, below: usize, blocks
     ensures { dst.new ≡ paint (λ j. ltb j (2 * blocks))
         (λ j. averaged (sample rows.now (below - at)) 0 (at + j)) dst.old }
 {
-    let mut i = 0;
-    while i < blocks {
+    for i in 0..blocks {
         let k = 2 * i;
         let upper = lent::words::two(rows, at + k);
         let lower = lent::words::two(rows, below + k);
         lent::words::put_two(dst, k, averaged_pair(upper, lower));
-        i += 1;
     }
 }
 
@@ -50,10 +45,8 @@ fn put_back(dst: &mut [u8], at: usize, from: &[u8; 128], n: usize)
     ensures { dst.new ≡ paint (within at (at + n)) (λ k. get_or from.now (k - at) 0)
         dst.old }
 {
-    let mut i = 0;
-    while i < n {
+    for i in 0..n {
         dst[at + i] = from[i];
-        i += 1;
     }
 }
 
@@ -79,11 +72,9 @@ fn average_pair(pair: &mut [u8], stride: usize)
     ensures { pair.new ≡ painted stride 2 whole (averaged (sample pair.old stride))
         pair.old }
 {
-    let mut k = 0;
-    while k < stride {
-        let n = lent::least(stride - k, 128);
+    for k in (0..stride).step_by(128) {
+        let n = (stride - k).min(128);
         average_part(pair, k, stride + k, n);
-        k += n;
     }
 }
 
@@ -95,10 +86,8 @@ pub fn average_plane(plane: &mut [u8], stride: usize, rows: usize)
     ensures { plane.new ≡ painted stride rows whole (averaged (sample plane.old stride))
         plane.old }
 {
-    let mut row = 0;
-    while row < rows {
+    for row in (0..rows).step_by(2) {
         let line = row * stride;
         average_pair(&mut plane[line..line + 2 * stride], stride);
-        row += 2;
     }
 }

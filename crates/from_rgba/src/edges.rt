@@ -26,12 +26,10 @@ fn fill_columns(plane: &mut [u8], width: u16, height: u16)
     let stride = lent::round_up_16(width);
     let n = width as usize;
     let m = height as usize;
-    let mut row = 0;
-    while row < m {
+    for row in 0..m {
         let line = row * stride;
         let last = plane[line + n - 1];
         lent::fill(&mut plane[line + n..line + stride], last);
-        row += 1;
     }
 }
 
@@ -42,10 +40,8 @@ fn copy_down(plane: &mut [u8], from: usize, to: usize, n: usize)
     ensures { plane.new ≡ paint (within to (to + n)) (λ k. get_or plane.old (from + (k - to)) 0)
         plane.old }
 {
-    let mut i = 0;
-    while i < n {
+    for i in 0..n {
         plane[to + i] = plane[from + i];
-        i += 1;
     }
 }
 
@@ -59,10 +55,8 @@ fn fill_rows(plane: &mut [u8], width: u16, height: u16)
     let stride = lent::round_up_16(width);
     let rows = lent::round_up_16(height);
     let last = (height as usize - 1) * stride;
-    let mut row = height as usize;
-    while row < rows {
+    for row in height as usize..rows {
         copy_down(plane, last, row * stride, stride);
-        row += 1;
     }
 }
 

@@ -10,6 +10,7 @@ pub mod edges; // the padding
 pub mod rows; // the converted pixels
 
 ghost use Rattle.std.specs.Prelude.{◌≡◌, [], ◌∷◌, ◌*◌, ◌≤◌, length};
+ghost use Rattle.lent.specs.Refused.{number_in};
 ghost use Rattle.lent.specs.Samples.{sample};
 ghost use Rattle.picture.specs.Sizes.{stride_of, rows_of, plane_of};
 ghost use Rattle.from_rgba.specs.Averaged.{averaged};
@@ -26,6 +27,8 @@ ghost use Rattle.from_rgba.specs.FromRgba.{
 
 use crate::edges::Edge;
 use colour::Matrix;
+use lent::Answer;
+use lent::refused::Refusal;
 use picture::Size;
 
 // Refusal 2: n bytes of RGBA are fewer than width x height x 4.
@@ -37,17 +40,17 @@ pub fn rgba_short(size: Size, n: usize) -> bool
     n < width * height * 4
 }
 
-// The number of the call: 2, 1 or 0.
-fn from_number(size: Size, n: usize, ny: usize, nu: usize, nv: usize) -> u32
-    ensures { result ≡ from_number_of size n ny nu nv }
+// Whether the call is refused, and why: the input has n bytes, and the planes ny, nu and nv.
+fn check(size: Size, n: usize, ny: usize, nu: usize, nv: usize) -> Result<(), Refusal>
+    ensures { number_in result ≡ from_number_of size n ny nu nv }
 {
     if rgba_short(size, n) {
-        return 2;
+        return Err(Refusal::PixelsShort);
     }
     if picture::planes_short(size, ny, nu, nv) {
-        return 1;
+        return Err(Refusal::PictureShort);
     }
-    0
+    Ok(())
 }
 
 // U or V of a plane whose pixels are converted: its padding by the edge rule, then the averages.
@@ -96,17 +99,14 @@ pub fn with_edge(
     y: &mut [u8],
     u: &mut [u8],
     v: &mut [u8],
-) -> lent::Answer
+) -> Answer
     ensures { FromRgbaOutcome matrix edge rgba.now size y.old u.old v.old
         result (y.new ∷ u.new ∷ v.new ∷ []) }
 {
-    let number = from_number(size, rgba.len(), y.len(), u.len(), v.len());
-    if number != 0 {
-        return lent::Answer { number, count: 0 };
+    let checked = check(size, rgba.len(), y.len(), u.len(), v.len());
+    if let Err(refusal) = checked {
+        return Answer::refused(refusal);
     }
     make_planes(matrix, edge, rgba, size, y, u, v);
-    lent::Answer {
-        number: 0,
-        count: 0,
-    }
+    Answer::done(0)
 }

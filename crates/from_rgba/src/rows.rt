@@ -38,12 +38,10 @@ fn pad_plane(plane: &mut [u8], width: u16, height: u16, value: u8)
 {
     let stride = lent::round_up_16(width);
     let rows = lent::round_up_16(height);
-    let mut row = 0;
-    while row < rows {
+    for row in 0..rows {
         let line = row * stride;
         let from = padding_from(width, height, row);
         lent::fill(&mut plane[line + from..line + stride], value);
-        row += 1;
     }
 }
 
@@ -57,13 +55,11 @@ fn apart(r: &mut [u8; 16], g: &mut [u8; 16], b: &mut [u8; 16], pixels: &[u8])
     ensures g { g.new ≡ paint every (λ k. get_or pixels.now (4 * k + 1) 0) g.old }
     ensures b { b.new ≡ paint every (λ k. get_or pixels.now (4 * k + 2) 0) b.old }
 {
-    let mut i = 0;
-    while i < 16 {
+    for i in 0..16 {
         let w = lent::words::four(pixels, 4 * i);
         r[i] = (w % 256) as u8;
         g[i] = (w / 256 % 256) as u8;
         b[i] = (w / 65536 % 256) as u8;
-        i += 1;
     }
 }
 
@@ -85,13 +81,11 @@ fn forward_16(
     ensures v { v.new ≡ paint every
         (λ k. (colour_apart matrix r.now g.now b.now k).v) v.old }
 {
-    let mut i = 0;
-    while i < 16 {
+    for i in 0..16 {
         let c = colour::forward_by(matrix, r[i], g[i], b[i]);
         y[i] = c.y;
         u[i] = c.u;
         v[i] = c.v;
-        i += 1;
     }
 }
 
@@ -100,10 +94,8 @@ fn put_16(dst: &mut [u8], from: &[u8; 16])
     requires { length dst.old ≡ 16 }
     ensures { dst.new ≡ paint every (λ k. get_or from.now k 0) dst.old }
 {
-    let mut i = 0;
-    while i < 16 {
+    for i in 0..16 {
         dst[i] = from[i];
-        i += 1;
     }
 }
 
@@ -136,8 +128,7 @@ fn forward_tail(matrix: Matrix, pixels: &[u8], y: &mut [u8], u: &mut [u8], v: &m
     ensures v { v.new ≡ paint every (λ k. (colour_at matrix pixels.now k).v) v.old }
 {
     let n = y.len();
-    let mut i = 0;
-    while i < n {
+    for i in 0..n {
         let red = pixels[4 * i];
         let green = pixels[4 * i + 1];
         let blue = pixels[4 * i + 2];
@@ -145,7 +136,6 @@ fn forward_tail(matrix: Matrix, pixels: &[u8], y: &mut [u8], u: &mut [u8], v: &m
         y[i] = p.y;
         u[i] = p.u;
         v[i] = p.v;
-        i += 1;
     }
 }
 
@@ -156,9 +146,9 @@ fn forward_row(matrix: Matrix, pixels: &[u8], y: &mut [u8], u: &mut [u8], v: &mu
     ensures u { u.new ≡ paint every (λ k. (colour_at matrix pixels.now k).u) u.old }
     ensures v { v.new ≡ paint every (λ k. (colour_at matrix pixels.now k).v) v.old }
 {
-    let full = y.len() / 16 * 16;
-    let mut k = 0;
-    while k < full {
+    let turns = y.len() / 16;
+    for turn in 0..turns {
+        let k = turn * 16;
         let end = k + 16;
         forward_part(
             matrix,
@@ -167,8 +157,8 @@ fn forward_row(matrix: Matrix, pixels: &[u8], y: &mut [u8], u: &mut [u8], v: &mu
             &mut u[k..end],
             &mut v[k..end],
         );
-        k = end;
     }
+    let full = turns * 16;
     forward_tail(
         matrix,
         &pixels[4 * full..],
@@ -228,11 +218,9 @@ fn forward_rows(
     let stride = lent::round_up_16(width);
     let n = width as usize;
     let m = height as usize;
-    let mut row = 0;
-    while row < m {
+    for row in 0..m {
         let at = 4 * (row * n);
         forward_line(matrix, rgba, at, n, row * stride, y, u, v);
-        row += 1;
     }
 }
 

@@ -6,7 +6,7 @@
 use Rattle.std.specs.Prelude.{ℕ}
 use Rattle.view.specs.declared.View.{View}
 use Rattle.picture.specs.declared.Size.{Size}
-use Rattle.to_rgba.specs.declared.Rect.{Rect}
+use Rattle.rects.specs.declared.Rect.{Rect}
 
 abbrev pub sizes_of : ℕ → ℕ → ℕ → ℕ → View
 sizes_of w h luma chroma = record { width = w; height = h; luma_stride = luma; chroma_stride = chroma }

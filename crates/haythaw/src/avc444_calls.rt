@@ -8,6 +8,7 @@ ghost use Rattle.wire_read.specs.declared.parts.Which.TheVariants.{Luma, Chroma}
 ghost use Rattle.wire_write.specs.Writing.{given, WriteOutcome};
 
 use wire_read::parts::Which;
+use wire_write::StreamInput;
 
 // Which streams a payload carries, and where their parts stand in it. 0, 9, 8 or 10.
 #[unsafe(no_mangle)]
@@ -88,14 +89,15 @@ pub extern "C" fn haythaw_avc444_write(
         (given chroma_rects.now chroma_pairs.now chroma_data.now)
         out.old result (out.new ∷ []) }
 {
-    wire_write::write(
-        kind,
-        luma_rects,
-        luma_pairs,
-        luma_data,
-        chroma_rects,
-        chroma_pairs,
-        chroma_data,
-        out,
-    )
+    let luma = StreamInput {
+        rects: luma_rects,
+        pairs: luma_pairs,
+        data: luma_data,
+    };
+    let chroma = StreamInput {
+        rects: chroma_rects,
+        pairs: chroma_pairs,
+        data: chroma_data,
+    };
+    wire_write::write(kind, luma, chroma, out)
 }

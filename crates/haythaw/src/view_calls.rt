@@ -27,7 +27,7 @@ pub extern "C" fn haythaw_view(
         luma_stride: luma_stride,
         chroma_stride: chroma_stride,
     };
-    view::view_number(w, view_y, view_u, view_v)
+    lent::refused::number(view::check(w, view_y, view_u, view_v))
 }
 
 // The place of a luma row in view_y.

@@ -3,7 +3,7 @@
 use Prim.Native.Nat.{ℕ, ◌+◌, ◌*◌, ◌/◌, ◌%◌, ◌<◌, ◌≤◌}
 use native.Mathlib.Nat.{mul-add-div_right, mul-add-mod_self_right, div-eq_of_lt, mod-eq_of_lt, mod-lt, mul-le-mul_right, suc-mul, add-zero, mul-zero, div-lt_iff_lt-mul, eq-zero-or-pos}
 use native.Mathlib.Omega.{arith}
-use mathlib.Core.Path.{◌≡◌, sym, ap, ◌∙◌, subst}
+use mathlib.Core.Path.{◌≡◌, ap, ◌∙◌, subst}
 use mathlib.Core.Logic.{⊎_elim}
 
 pub cell_row : (w r c : ℕ) → c < w → (r * w + c) / w ≡ r
@@ -31,8 +31,3 @@ row_of w h k lt = (div-lt_iff_lt-mul (width_pos w h k lt)).1 lt
 
 pub col_of : (w h k : ℕ) → k < h * w → k % w < w
 col_of w h k lt = mod-lt k (width_pos w h k lt)
-
--- two places are one only at one row and column
-pub cell_inj : (w q k r c : ℕ) → k < w → c < w → q * w + k ≡ r * w + c → (q ≡ r) × (k ≡ c)
-cell_inj w q k r c hk hc e =
-    (sym (cell_row w q k hk) ∙ ap (λ (n : ℕ). n / w) e ∙ cell_row w r c hc, sym (cell_col w q k hk) ∙ ap (λ (n : ℕ). n % w) e ∙ cell_col w r c hc)

@@ -31,6 +31,9 @@ module _ (xs : List ℕ) where
   pub front_all : {ys : List ℕ} (n : ℕ) → Front xs ys n → length xs ≤ n → ys ≡ xs
   front_all {ys} n f end = sym (take_all n ys (omega arith)) ∙ f.1 ∙ take_all n xs end
 
+  pub front_less : (ys : List ℕ) (n m : ℕ) → Front xs ys n → m ≤ n → Front xs ys m
+  front_less ys n m f less = (f.0, sym (take-take m n ys less) ∙ ap (take m) f.1 ∙ take-take m n xs less)
+
   -- the part from a to below e, which starts in the front or where it ends, was lent and came back as that of xs
   pub front_more : (was : List ℕ) {ys : List ℕ} (n a e : ℕ) → Front xs was n → a ≤ n → a ≤ e → e ≤ length xs → ys ≡ take (e - a) (drop a xs)
       → Front xs (take a was ++ (ys ++ drop (e - a) (drop a was))) e
@@ -48,4 +51,4 @@ module _ (xs : List ℕ) where
       long = ap length is ∙ length-take-le (e - a) (drop a xs) (simp length-drop (omega (arith, fits)))
 
       same : take a was ≡ take a xs
-      same = sym (take-take a n was near) ∙ ap (take a) f.1 ∙ take-take a n xs near
+      same = (front_less was n a f near).1

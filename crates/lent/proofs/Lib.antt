@@ -19,6 +19,7 @@ pub mod First
 pub mod Samples
 pub mod Pixels
 pub mod Refusal
+pub mod Answered
 pub mod Outcome
 pub mod Ends
 pub mod Exactly

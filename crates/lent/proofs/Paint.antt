@@ -1,6 +1,6 @@
 -- The laws of `paint`: what stands where, nothing painted, two coats, one store more, all places.
 -- Assumes nothing.
-use Prim.Native.Nat.{ℕ, zero, suc, ◌+◌, ◌*◌, ◌/◌, ◌<◌}
+use Prim.Native.Nat.{ℕ, zero, suc, ◌+◌, ◌<◌}
 use native.Mathlib.Nat.{le_of_suc-le-suc, not-suc-le-zero}
 use native.Mathlib.Omega.{arith}
 use mathlib.Core.Path.{◌≡◌, refl, sym, ap, ◌∙◌, subst}
@@ -73,19 +73,6 @@ paint_next s xs i v h e =
     (λ p. lt-ltb k (i + 1) (omega (arith, ltb-true k i p)))
     (λ p. lt-ltb k i (⊎_elim (λ l. l) (λ g. absurd (ne (omega (arith, ltb-true k (i + 1) p)))) (split k i))))
 
--- all places are painted: what the rest was has no effect
-pub paint_all : (t : ℕ → Bool) (s : ℕ → ℕ) (xs ys : List ℕ) → length ys ≡ length xs → ((k : ℕ) → k < length xs → t k ≡ true) → ((k : ℕ) → k < length xs → s k ≡ get_or ys k 0) → paint t s xs ≡ ys
-paint_all t s xs ys e f g = sym (paint_is t s xs ys e (λ k h. sym (cond-true (t k) (s k) (get_or xs k 0) (f k h) ∙ g k h)))
-
 -- a list of the same length, written over all of xs
 pub paint_over : (xs ys : List ℕ) → length ys ≡ length xs → ys ≡ paint every (λ k. get_or ys k 0) xs
 paint_over xs ys e = paint_is every (λ k. get_or ys k 0) xs ys e (λ k h. refl)
-
--- two places of one source byte: `spread` writes them in one turn
-pub paint_pair : (f : ℕ → ℕ) (xs : List ℕ) (i v : ℕ) → 2 * i + 1 < length xs → v ≡ f i → set (set (paint (λ k. ltb k (2 * i)) (λ k. f (k / 2)) xs) (2 * i) v) (2 * i + 1) v ≡ paint (λ k. ltb k (2 * (i + 1))) (λ k. f (k / 2)) xs
-paint_pair f xs i v h e =
-    let even : i ≡ 2 * i / 2 = omega arith in
-    let odd : i ≡ (2 * i + 1) / 2 = omega arith in
-    let next : 2 * i + 1 + 1 ≡ 2 * (i + 1) = omega arith in
-    rw (paint_next (λ k. f (k / 2)) xs (2 * i) v (omega arith) (e ∙ ap f even)) (paint_next (λ k. f (k / 2)) xs (2 * i + 1) v h (e ∙ ap f odd))
-    ∙ ap (λ (n : ℕ). paint (λ k. ltb k n) (λ k. f (k / 2)) xs) next

@@ -8,13 +8,12 @@ use mathlib.Core.Bool.{Bool, true, false, cond, ◌&&◌, ◌||◌, and-or_distr
 use mathlib.Core.Logic.{⊎_elim}
 use mathlib.Core.List.{List}
 use lib.Dec.{ltb}
-use lib.ListN.{length, get_or, set, length-set}
-use lib.Seq.{get_or-set_same, get_or-set_other}
+use lib.ListN.{length, get_or}
 use borrow.Author.Tests.{lt-ltb, le-ltb, ltb-true}
 use Rattle.lent.specs.Paint.{painted}
-use Rattle.lent.proofs.Bools.{split, both_left, both_right, cond-false, cond-true, cond_same, same_and, and-cond}
+use Rattle.lent.proofs.Bools.{split, both_left, both_right, cond-false, cond_same, same_and, and-cond}
 use Rattle.lent.proofs.Paint.{length-paint, get_d_paint, paint_is, paint_ext, paint-paint}
-use Rattle.lent.proofs.Cells.{cell_row, cell_col, cell_in, cell_inj, row_of, col_of}
+use Rattle.lent.proofs.Cells.{cell_row, cell_col, cell_in, row_of, col_of}
 
 module _ (w h : ℕ) (t : ℕ → ℕ → Bool) (s : ℕ → ℕ → ℕ) (xs : List ℕ) where
   pub length_painted : length (painted w h t s xs) ≡ length xs
@@ -63,27 +62,3 @@ painted-painted w h t₁ t₂ s₁ s₂ xs =
 -- two calls from one source
 pub painted_more : (w h : ℕ) (t₁ t₂ : ℕ → ℕ → Bool) (s : ℕ → ℕ → ℕ) (xs : List ℕ) → painted w h t₂ s (painted w h t₁ s xs) ≡ painted w h (λ r c. t₁ r c || t₂ r c) s xs
 painted_more w h t₁ t₂ s xs = painted-painted w h t₁ t₂ s s xs ∙ painted_ext w h _ _ _ _ xs (λ r c hr hc. refl) (λ r c hr hc e. cond_same (t₂ r c) (s r c))
-
--- one place of the plane is written
-pub painted-set : (w h : ℕ) (t t' : ℕ → ℕ → Bool) (s : ℕ → ℕ → ℕ) (xs : List ℕ) (r c v : ℕ) → h * w ≤ length xs → r < h → c < w → v ≡ s r c → t' r c ≡ true
-    → ((q k : ℕ) → ((q ≡ r) × (k ≡ c) → ⊥) → t q k ≡ t' q k)
-    → set (painted w h t s xs) (r * w + c) v ≡ painted w h t' s xs
-painted-set w h t t' s xs r c v fits hr hc e held same =
-    painted_is w h t' s xs (set (painted w h t s xs) (r * w + c) v) (length-set (painted w h t s xs) (r * w + c) v ∙ length_painted w h t s xs)
-    (λ q k hq hk. ⊎_elim (λ lt. other q k hq hk (λ z. omega arith)) (λ ge. ⊎_elim (λ lt. other q k hq hk (λ z. omega arith)) (λ ge'. here q k hk (omega arith)) (split (r * w + c) (q * w + k))) (split (q * w + k) (r * w + c)))
-    (λ n ge lt. get_or-set_other (painted w h t s xs) (r * w + c) n v 0 (λ z. omega (arith, cell_in w h r c hr hc)) ∙ painted_past w h t s xs n ge lt)
-  where
-    other : (q k : ℕ) → q < h → k < w → (q * w + k ≡ r * w + c → ⊥) → get_or (set (painted w h t s xs) (r * w + c) v) (q * w + k) 0 ≡ cond (t' q k) (s q k) (get_or xs (q * w + k) 0)
-    other q k hq hk ne =
-        get_or-set_other (painted w h t s xs) (r * w + c) (q * w + k) v 0 ne
-        ∙ painted_at w h t s xs q k hq hk fits
-        ∙ ap (λ (b : Bool). cond b (s q k) (get_or xs (q * w + k) 0)) (same q k (λ z. ne (λ i. z.0 i * w + z.1 i)))
-
-    here : (q k : ℕ) → k < w → q * w + k ≡ r * w + c → get_or (set (painted w h t s xs) (r * w + c) v) (q * w + k) 0 ≡ cond (t' q k) (s q k) (get_or xs (q * w + k) 0)
-    here q k hk z =
-        let m = cell_inj w q k r c hk hc z in
-        ap (λ (n : ℕ). get_or (set (painted w h t s xs) (r * w + c) v) n 0) z
-        ∙ get_or-set_same (painted w h t s xs) (r * w + c) v 0 (omega (arith, cell_in w h r c hr hc, length_painted w h t s xs))
-        ∙ e
-        ∙ sym (cond-true (t' r c) (s r c) (get_or xs (q * w + k) 0) held)
-        ∙ sym (λ i. cond (t' (m.0 i) (m.1 i)) (s (m.0 i) (m.1 i)) (get_or xs (q * w + k) 0))

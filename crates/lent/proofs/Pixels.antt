@@ -2,13 +2,13 @@
 -- Assumes nothing.
 use Prim.Native.Nat.{ℕ, suc, ◌+◌, ◌*◌, ◌/◌, ◌%◌, ◌<◌, ◌≤◌}
 use native.Mathlib.Nat.{add-zero}
-use native.Mathlib.Numerals.{add-one, add-two, add-three}
+use native.Mathlib.Numerals.{add-one}
 use native.Mathlib.Omega.{arith}
-use mathlib.Core.Path.{◌≡◌, refl, sym, ap, ◌∙◌}
+use mathlib.Core.Path.{◌≡◌, refl, ap, ◌∙◌}
 use mathlib.Core.List.{List, [], ◌∷◌}
 use lib.Dec.{ltb}
-use lib.ListN.{length, get_or, set, drop_of_length-le}
-use lib.Seq.{sets, drop-cons}
+use lib.ListN.{length, get_or}
+use lib.Seq.{sets}
 use borrow.Author.Tests.{lt-ltb, le-ltb}
 use Rattle.lent.specs.Paint.{paint, every}
 use Rattle.lent.specs.Pixels.{bytes, done}
@@ -23,13 +23,6 @@ byte_at f i j h =
     let q : i ≡ (4 * i + j) / 4 = omega arith in
     let r : j ≡ (4 * i + j) % 4 = omega arith in
     λ t. get_or (f (q t)) (r t) 0
-
--- a pixel's four stores are its bytes stored one after the other
-pub stores : (xs : List ℕ) (k : ℕ) (p : List ℕ) → length p ≡ 4 → set (set (set (set xs k (get_or p 0 0)) (k + 1) (get_or p 1 0)) (k + 2) (get_or p 2 0)) (k + 3) (get_or p 3 0) ≡ sets xs k p
-stores xs k p four =
-    let whole : p ≡ get_or p 0 0 ∷ get_or p 1 0 ∷ get_or p 2 0 ∷ get_or p 3 0 ∷ [] =
-    cc (drop-cons p 0 0 (omega arith), drop-cons p 1 0 (omega arith), drop-cons p 2 0 (omega arith), drop-cons p 3 0 (omega arith), drop_of_length-le p {i = 4} (omega arith)) in
-    (λ t. set (set (set (set xs k (get_or p 0 0)) (add-one k t) (get_or p 1 0)) (add-two k t) (get_or p 2 0)) (add-three k t) (get_or p 3 0)) ∙ ap (sets xs k) (sym whole)
 
 -- a list stored behind the first k bytes of a row, where it has the bytes that follow
 abbrev upto : (ℕ → List ℕ) → List ℕ → ℕ → List ℕ

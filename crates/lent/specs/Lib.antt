@@ -5,5 +5,6 @@ pub mod Spread
 pub mod Pixels
 pub mod Sizes
 pub mod Refusal
+pub mod Refused
 pub mod Outcome
 pub mod Counts

@@ -8,6 +8,7 @@
 pub mod words; // neighbouring bytes as one number
 pub mod long; // copies of many bytes
 pub mod twice; // two rows that are written alike
+pub mod refused; // why a call was refused
 
 ghost use Rattle.std.specs.Prelude.{◌≡◌, ◌+◌, ◌*◌, ◌/◌, ◌≤◌, ◌<◌, min, ltb, length, get_or};
 ghost use Rattle.std.proofs.lemmas.List.Edits.{sets};
@@ -15,6 +16,7 @@ ghost use Rattle.lent.specs.Paint.{paint, every};
 ghost use Rattle.lent.specs.Sizes.{round_up, half_up, too_short};
 
 // What a call answers: 0 or the number of its refusal, and a count, which is 0 in every refusal.
+// Numbers, and no Result: C is handed it as it is, and the calls of every crate answer it.
 #[repr(C)]
 #[derive(Clone, Copy)]
 pub struct Answer {
@@ -29,10 +31,8 @@ pub fn copy_front(dst: &mut [u8], src: &[u8], n: usize)
     requires n_in_bounds_2 { n ≤ length src.now }
     ensures { dst.new ≡ paint (λ k. ltb k n) (λ k. get_or src.now k 0) dst.old }
 {
-    let mut i = 0;
-    while i < n {
+    for i in 0..n {
         dst[i] = src[i];
-        i += 1;
     }
 }
 
@@ -46,50 +46,20 @@ fn copy_16(dst: &mut [u8], src: &[u8])
     copy_front(dst, &t, 16);
 }
 
-// dst becomes src, 2 to 4 bytes: the first two and the last, whatever the two have in common. Both are read before one is written, so that each is
-// one load and one store. The size is written out here and in its two likes below: where it is handed over, the compiler makes more of the copies.
-fn copy_by_2(dst: &mut [u8], src: &[u8])
+// dst becomes src, N to 2 N bytes: the first N and the last, whatever the two have in common. Both are read before one is written, so that each is
+// one load and one store: N is fixed, since the compiler makes more of a copy whose size is handed over.
+fn copy_by<const N: usize>(dst: &mut [u8], src: &[u8])
     requires dst_len { length dst.old ≡ length src.now }
-    requires in_bounds { (2 ≤ length src.now) × (length src.now ≤ 4) }
+    requires in_bounds { (N ≤ length src.now) × (length src.now ≤ 2 * N) }
     ensures { dst.new ≡ src.now }
 {
     let n = src.len();
-    let mut first = [0u8; 2];
-    let mut last = [0u8; 2];
-    copy_front(&mut first, src, 2);
-    copy_front(&mut last, &src[n - 2..n], 2);
-    copy_front(dst, &first, 2);
-    copy_front(&mut dst[n - 2..n], &last, 2);
-}
-
-// The same of 4 to 8 bytes.
-fn copy_by_4(dst: &mut [u8], src: &[u8])
-    requires dst_len { length dst.old ≡ length src.now }
-    requires in_bounds { (4 ≤ length src.now) × (length src.now ≤ 8) }
-    ensures { dst.new ≡ src.now }
-{
-    let n = src.len();
-    let mut first = [0u8; 4];
-    let mut last = [0u8; 4];
-    copy_front(&mut first, src, 4);
-    copy_front(&mut last, &src[n - 4..n], 4);
-    copy_front(dst, &first, 4);
-    copy_front(&mut dst[n - 4..n], &last, 4);
-}
-
-// The same of 8 to 16 bytes.
-fn copy_by_8(dst: &mut [u8], src: &[u8])
-    requires dst_len { length dst.old ≡ length src.now }
-    requires in_bounds { (8 ≤ length src.now) × (length src.now ≤ 16) }
-    ensures { dst.new ≡ src.now }
-{
-    let n = src.len();
-    let mut first = [0u8; 8];
-    let mut last = [0u8; 8];
-    copy_front(&mut first, src, 8);
-    copy_front(&mut last, &src[n - 8..n], 8);
-    copy_front(dst, &first, 8);
-    copy_front(&mut dst[n - 8..n], &last, 8);
+    let mut first = [0u8; N];
+    let mut last = [0u8; N];
+    copy_front(&mut first, src, N);
+    copy_front(&mut last, &src[n - N..n], N);
+    copy_front(dst, &first, N);
+    copy_front(&mut dst[n - N..n], &last, N);
 }
 
 // dst becomes src, at most one byte.
@@ -115,14 +85,14 @@ fn copy_short(dst: &mut [u8], src: &[u8])
             copy_one(dst, src);
             return;
         }
-        copy_by_2(dst, src);
+        copy_by::<2>(dst, src);
         return;
     }
     if n < 8 {
-        copy_by_4(dst, src);
+        copy_by::<4>(dst, src);
         return;
     }
-    copy_by_8(dst, src);
+    copy_by::<8>(dst, src);
 }
 
 // dst becomes src. 16 bytes a turn; the last turn ends at the end, whatever it has in common with the one before: no byte is left for a
@@ -137,10 +107,8 @@ pub fn copy(dst: &mut [u8], src: &[u8])
         return;
     }
     let last = n - 16;
-    let mut i = 0;
-    while i < last {
+    for i in (0..last).step_by(16) {
         copy_16(&mut dst[i..i + 16], &src[i..i + 16]);
-        i += 16;
     }
     copy_16(&mut dst[last..n], &src[last..n]);
 }
@@ -167,10 +135,8 @@ fn pairs(dst: &mut [u8], from: &[u8], count: usize)
     requires count_in_bounds_2 { count ≤ length from.now }
     ensures { dst.new ≡ paint (λ k. ltb k (2 * count)) (λ k. get_or from.now (k / 2) 0) dst.old }
 {
-    let mut i = 0;
-    while i < count {
-        words::put_two(dst, 2 * i, 257 * (from[i] as u16));
-        i += 1;
+    for i in 0..count {
+        words::put_two(dst, 2 * i, 257 * u16::from(from[i]));
     }
 }
 
@@ -195,10 +161,9 @@ fn many_pairs(dst: &mut [u8], from: &[u8], n: usize)
         return;
     }
     let most = n - 8;
-    let mut i = 0;
-    while i < most {
+    for k in 0..most.div_ceil(8) {
+        let i = 8 * k;
         spread_16(&mut dst[2 * i..2 * i + 16], &from[i..i + 8]);
-        i += 8;
     }
     spread_16(&mut dst[2 * most..2 * n], &from[most..n]);
 }
@@ -221,10 +186,8 @@ pub fn spread(dst: &mut [u8], from: &[u8])
 pub fn fill(dst: &mut [u8], value: u8)
     ensures { dst.new ≡ paint every (λ k. value) dst.old }
 {
-    let mut i = 0;
-    while i < dst.len() {
-        dst[i] = value;
-        i += 1;
+    for b in dst.iter_mut() {
+        *b = value;
     }
 }
 
@@ -240,14 +203,15 @@ pub fn put_pixel(out: &mut [u8], i: usize, p: [u8; 4])
     out[k + 3] = p[3];
 }
 
-// The smaller of two.
+// The smaller of two: std's `min`, which new code calls. It stays a function, since wrong programs are about it (least_swapped).
 pub fn least(a: usize, b: usize) -> usize
     ensures { result ≡ min a b }
 {
-    if a < b { a } else { b }
+    a.min(b)
 }
 
-// A width or a height rounded up to a whole macroblock (the Rust's next_multiple_of(16)).
+// A width or a height rounded up to a whole macroblock (the Rust's next_multiple_of(16)). Here and in the two below std's method tests the remainder,
+// which a call over small rectangles pays for in each.
 pub fn round_up_16(n: u16) -> usize
     ensures { result ≡ round_up 16 n }
 {
@@ -268,18 +232,9 @@ pub fn half_up(n: u16) -> usize
     (n as usize + 1) / 2
 }
 
-// Whether len bytes are fewer than `rows` rows of `stride` bytes. It multiplies where both are below 2^32, which is fast, and else it
-// divides, so that no product wraps: one that is too large for the machine word is above every length.
+// Whether len bytes are fewer than `rows` rows of `stride` bytes. The product is that of 128 bits, which does not wrap.
 pub fn too_short(stride: usize, rows: usize, len: usize) -> bool
     ensures { result ≡ too_short stride rows len }
 {
-    if stride < 4294967296 {
-        if rows < 4294967296 {
-            return len < rows * stride;
-        }
-    }
-    if rows == 0 {
-        return false;
-    }
-    len / rows < stride
+    (len as u128) < (rows as u128) * (stride as u128)
 }

@@ -22,10 +22,8 @@ pub fn copy(dst: &mut [u8], src: &[u8])
     ensures { dst.new ≡ src.now }
 {
     let n = src.len();
-    let mut k = 0;
-    while k < n {
-        let m = crate::least(4096, n - k);
-        copy_part(&mut dst[k..k + m], &src[k..k + m]);
-        k += m;
+    for k in (0..n).step_by(4096) {
+        let end = k + (n - k).min(4096);
+        copy_part(&mut dst[k..end], &src[k..end]);
     }
 }

@@ -36,10 +36,9 @@ fn pairs(dst: &mut [u8], a: usize, b: usize, from: &[u8], n: usize)
         return;
     }
     let most = n - 8;
-    let mut i = 0;
-    while i < most {
+    for k in 0..most.div_ceil(8) {
+        let i = 8 * k;
         put_16(dst, a + 2 * i, b + 2 * i, &from[i..i + 8]);
-        i += 8;
     }
     put_16(dst, a + 2 * most, b + 2 * most, &from[most..n]);
 }

@@ -4,24 +4,12 @@
 // one by one, while a load of two bytes, in a function of its own, stays one load, and a row of them is vector code.
 ghost use Rattle.std.specs.Prelude.{◌≡◌, ◌+◌, ◌/◌, ◌%◌, ◌<◌, ◌≤◌, length, get_or, set};
 
-fn wide(b: u8) -> u16
-    ensures { (result ≡ b) × (result < 256) }
-{
-    b as u16
-}
-
-fn wider(b: u8) -> u32
-    ensures { (result ≡ b) × (result < 256) }
-{
-    b as u32
-}
-
 // The two bytes of p from i on.
 pub fn two(p: &[u8], i: usize) -> u16
     requires { i + 2 ≤ length p.now }
     ensures { (result % 256 ≡ get_or p.now i 0) × (result / 256 ≡ get_or p.now (i + 1) 0) }
 {
-    wide(p[i]) + 256 * wide(p[i + 1])
+    u16::from_le_bytes([p[i], p[i + 1]])
 }
 
 // The two bytes of dst from i on become those of w.
@@ -29,8 +17,9 @@ pub fn put_two(dst: &mut [u8], i: usize, w: u16)
     requires { i + 2 ≤ length dst.old }
     ensures { dst.new ≡ set (set dst.old i (w % 256)) (i + 1) (w / 256) }
 {
-    dst[i] = (w % 256) as u8;
-    dst[i + 1] = (w / 256) as u8;
+    let [low, high] = w.to_le_bytes();
+    dst[i] = low;
+    dst[i + 1] = high;
 }
 
 // The four bytes of p from i on.
@@ -39,7 +28,7 @@ pub fn four(p: &[u8], i: usize) -> u32
     ensures { (result % 256 ≡ get_or p.now i 0) × (result / 256 % 256 ≡ get_or p.now (i + 1) 0)
         × (result / 65536 % 256 ≡ get_or p.now (i + 2) 0) × (result / 16777216 ≡ get_or p.now (i + 3) 0) }
 {
-    wider(p[i]) + 256 * wider(p[i + 1]) + 65536 * wider(p[i + 2]) + 16777216 * wider(p[i + 3])
+    u32::from_le_bytes([p[i], p[i + 1], p[i + 2], p[i + 3]])
 }
 
 // The four bytes of dst from i on become those of w.
@@ -48,8 +37,9 @@ pub fn put_four(dst: &mut [u8], i: usize, w: u32)
     ensures { dst.new ≡ set (set (set (set dst.old i (w % 256)) (i + 1) (w / 256 % 256))
         (i + 2) (w / 65536 % 256)) (i + 3) (w / 16777216) }
 {
-    dst[i] = (w % 256) as u8;
-    dst[i + 1] = (w / 256 % 256) as u8;
-    dst[i + 2] = (w / 65536 % 256) as u8;
-    dst[i + 3] = (w / 16777216) as u8;
+    let [first, second, third, fourth] = w.to_le_bytes();
+    dst[i] = first;
+    dst[i + 1] = second;
+    dst[i + 2] = third;
+    dst[i + 3] = fourth;
 }

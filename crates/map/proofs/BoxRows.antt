@@ -1,4 +1,4 @@
--- The map written whole, and the loop over the rows of a box of blocks, over any source. The code of the loop keeps the map's row length and
+-- The loop over the rows of a box of blocks, over any source. The code of the loop keeps the map's row length and
 -- not the rows that it has, so the invariant is for every number of rows that the box and the buffer allow.
 -- Assumes nothing.
 use Prim.Native.Nat.{ℕ, ◌+◌, ◌*◌, ◌-◌, ◌<◌, ◌≤◌}
@@ -9,10 +9,9 @@ use mathlib.Core.List.{List, ◌++◌}
 use lib.ListN.{length, get_or, take, drop}
 use lib.Seq.{get_or-take, get_or-drop}
 use borrow.Author.Tests.{ltb-true}
-use Rattle.lent.specs.Paint.{paint, painted, every, whole, within, up_to}
+use Rattle.lent.specs.Paint.{paint, painted, every, within, up_to}
 use Rattle.lent.specs.Samples.{sample}
 use Rattle.lent.proofs.Bools.{same_test, never_true, both_right, cond-false}
-use Rattle.lent.proofs.Cells.{row_in}
 use Rattle.lent.proofs.Painted.{length_painted, painted_at}
 use Rattle.lent.proofs.PartRows.{part_more}
 use Rattle.lent.proofs.Rows.{rows_none, rows_all}
@@ -20,11 +19,7 @@ use Rattle.lent.proofs.Taken.{within_facts, within_holds, box_facts, box_holds}
 use Rattle.picture.specs.declared.Size.{Size}
 use Rattle.rects.specs.declared.Area.{Area}
 use Rattle.rects.specs.Rects.{in_area}
-use Rattle.map.specs.Map.{across_of, down_of, map_of, turned_of, turned_at, BoxFits}
-
--- all of the map, as the code has its row length and rows
-pub map-filled : (z : Size) (s : ℕ → ℕ → ℕ) (xs : List ℕ) {w h : ℕ} {ys : List ℕ} → w ≡ across_of z → h ≡ down_of z → ys ≡ painted w h whole s xs → ys ≡ map_of z s xs
-map-filled z s xs across down is = is ∙ (λ i. painted (across i) (down i) whole s xs)
+use Rattle.map.specs.Map.{across_of, down_of, turned_of, turned_at, BoxFits}
 
 -- the loop's invariant: ys is xs with the box's rows below `row` written
 abbrev pub BoxRows : ℕ → Area → (ℕ → ℕ → ℕ) → List ℕ → List ℕ → ℕ → Type 0
@@ -40,9 +35,6 @@ module _ (z : Size) (n : ℕ) (area : Area) (w : ℕ) (is : w ≡ across_of z) (
 
   pub box_room : area.bottom * w ≤ n
   box_room = le_trans (mul-le-mul_right w fits.rows_inside) map_room
-
-  pub box_line : (row : ℕ) → row < area.bottom → row * w + across_of z ≤ n
-  box_line row lt = omega (arith, is, box_room, row_in w area.bottom row lt)
 
 -- of row `row` the box takes the columns from its left edge to below its right
 box_row : (area : Area) (row c : ℕ) → area.top ≤ row → row < area.bottom → in_area area row c ≡ within area.left area.right c

@@ -1,21 +1,25 @@
--- Counts over the map: a part of a row is counted, a short row is seen to be of one value, two pixels of a row have one block between them, and so have
+-- Counts over the map: a part of a row is counted, a row of one value is, two pixels of a row have one block between them, and so have
 -- two rows.
 -- Assumes nothing.
 use Prim.Native.Nat.{ℕ, zero, suc, ◌+◌, ◌*◌, ◌-◌, ◌/◌, ◌%◌, ◌≤◌, ◌<◌}
 use native.Mathlib.Nat.{suc-mul, zero-mul}
 use native.Mathlib.Numerals.{add-one}
 use native.Mathlib.Omega.{arith}
-use mathlib.Core.Path.{◌≡◌, sym, ap, ◌∙◌}
-use mathlib.Core.Bool.{Bool}
-use mathlib.Core.Logic.{⊎_elim}
+use mathlib.Core.Path.{◌≡◌, refl, sym, ap, ◌∙◌}
+use mathlib.Core.Bool.{Bool, true, false}
 use mathlib.Core.List.{List}
 use lib.ListN.{length, get_or, take, drop, length-drop}
 use lib.Seq.{get_or-take, get_or-drop, length-take-le}
+use mir.Val.{bool_byte}
 use Rattle.lent.specs.Counts.{total, one, count_of}
 use Rattle.lent.specs.Samples.{sample}
-use Rattle.lent.proofs.Bools.{split}
 use Rattle.lent.proofs.Counts.{total_none, total-one, total_more, total_same, total_low, count_low}
 use Rattle.map.specs.Map.{stale, stale_rows_of}
+
+-- what `From<bool>` gives
+pub byte_one : (b : Bool) → bool_byte b ≡ one b
+byte_one true = refl
+byte_one false = refl
 
 -- one place, and one value everywhere
 pub total_single : (f : ℕ → ℕ) → total 1 f ≡ f 0
@@ -43,44 +47,6 @@ count_part t line a e n m ordered fits before here =
     (λ i. before i + (here ∙ part_count t line a e ordered fits) i)
     ∙ total_more a (e - a) (λ j. one (t (get_or line j 0)))
     ∙ ap (λ (k : ℕ). count_of k (λ j. t (get_or line j 0))) whole
-
--- four bytes as one number, the first one lowest: 16843009 is four of 1
-abbrev pub FourAt : List ℕ → ℕ → ℕ → Type 0
-FourAt line i w =
-    (w % 256 ≡ get_or line i 0) × (w / 256 % 256 ≡ get_or line (i + 1) 0) × (w / 65536 % 256 ≡ get_or line (i + 2) 0) × (w / 16777216 ≡ get_or line (i + 3) 0)
-
--- each byte of x times it is x
-four_of : (x : ℕ) → x < 256
-    → (16843009 * x % 256 ≡ x) × (16843009 * x / 256 % 256 ≡ x) × (16843009 * x / 65536 % 256 ≡ x) × (16843009 * x / 16777216 ≡ x)
-four_of x byte =
-    let second : 16843009 * x / 256 ≡ 65793 * x = omega arith in
-    let third : 16843009 * x / 65536 ≡ 257 * x = omega arith in
-    (omega arith, ap (λ (m : ℕ). m % 256) second ∙ omega arith, ap (λ (m : ℕ). m % 256) third ∙ omega arith, omega arith)
-
-four_alike : (line : List ℕ) (i k w x : ℕ) → i ≤ k → k < i + 4 → FourAt line i w → x < 256 → w ≡ 16843009 * x → get_or line k 0 ≡ x
-four_alike line i k w x ge lt four byte is =
-    let at : (j v : ℕ) → k ≡ j → v ≡ get_or line j 0 → v ≡ x → get_or line k 0 ≡ x = λ j v e f g. ap (λ (m : ℕ). get_or line m 0) e ∙ sym f ∙ g in
-    let each = four_of x byte in
-    ⊎_elim
-    (λ lt'. ⊎_elim
-    (λ lt''. at i _ (omega arith) four.0 (ap (λ (m : ℕ). m % 256) is ∙ each.0))
-    (λ ge''. at (i + 1) _ (omega arith) four.1 (ap (λ (m : ℕ). m / 256 % 256) is ∙ each.1))
-    (split k (i + 1)))
-    (λ ge'. ⊎_elim
-    (λ lt''. at (i + 2) _ (omega arith) four.2 (ap (λ (m : ℕ). m / 65536 % 256) is ∙ each.2))
-    (λ ge''. at (i + 3) _ (omega arith) four.3 (ap (λ (m : ℕ). m / 16777216) is ∙ each.3))
-    (split k (i + 3)))
-    (split k (i + 2))
-
--- the first four of at most 8 bytes are x, and the last four: no byte is another
-pub ends_alike : (line : List ℕ) (v w x : ℕ) → 4 ≤ length line → length line ≤ 8 → x < 256
-    → FourAt line 0 v → v ≡ 16843009 * x → FourAt line (length line - 4) w → w ≡ 16843009 * x
-    → (k : ℕ) → k < length line → get_or line k 0 ≡ x
-ends_alike line v w x least most byte first first_is last last_is k lt =
-    ⊎_elim
-    (λ low. four_alike line 0 k v x (omega arith) (omega arith) first byte first_is)
-    (λ high. four_alike line (length line - 4) k w x (omega arith) (omega arith) last byte last_is)
-    (split k 4)
 
 -- a row whose bytes are all x
 pub alike_count : (t : ℕ → Bool) (line : List ℕ) (x : ℕ) → ((k : ℕ) → k < length line → get_or line k 0 ≡ x)

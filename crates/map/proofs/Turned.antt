@@ -1,30 +1,23 @@
--- A writer that reads what it writes: one byte more of a part is turned; and where some blocks were turned already, turning more of them is
+-- A writer that reads what it writes: a byte by itself is turned; and where some blocks were turned already, turning more of them is
 -- painting from the map as it was before all, so that the loops over a list go by the laws of `painted` as they stand.
 -- Assumes nothing.
-use Prim.Native.Nat.{ℕ, ◌+◌, ◌*◌, ◌<◌, ◌≤◌}
+use Prim.Native.Nat.{ℕ, ◌+◌, ◌*◌, ◌≤◌}
 use native.Mathlib.Omega.{arith}
 use mathlib.Core.Path.{◌≡◌, refl, ap, ◌∙◌}
 use mathlib.Core.Bool.{Bool, true, false, cond}
 use mathlib.Core.List.{List}
-use lib.Dec.{ltb, eqb}
-use lib.ListN.{length, get_or, set}
-use borrow.Author.Tests.{le-ltb, eqb-true, eq-eqb}
+use lib.Dec.{eqb}
+use lib.ListN.{length, get_or}
+use borrow.Author.Tests.{eqb-true, eq-eqb}
 use Rattle.lent.specs.Paint.{paint, painted, within}
 use Rattle.lent.specs.Samples.{sample}
-use Rattle.lent.proofs.Bools.{same_test, cond-false}
+use Rattle.lent.proofs.Bools.{same_test}
 use Rattle.lent.proofs.ByPart.{so_far_past, so_far_over}
-use Rattle.lent.proofs.Paint.{paint_next, paint_ext, get_d_paint}
+use Rattle.lent.proofs.Paint.{paint_ext}
 use Rattle.lent.proofs.Painted.{painted_at, painted_ext}
 use Rattle.lent.proofs.SoFar.{SoFar}
 use Rattle.lent.proofs.Taken.{within_facts, within_holds}
 use Rattle.map.specs.Map.{turned_of, turned_at}
-
-pub turn_next : (d dst : List ℕ) (k b : ℕ) → k < length d → dst ≡ paint (λ j. ltb j k) (λ j. turned_of (get_or d j 0)) d → b ≡ turned_of (get_or dst k 0)
-    → set dst k b ≡ paint (λ j. ltb j (k + 1)) (λ j. turned_of (get_or d j 0)) d
-turn_next d dst k b lt is e =
-    let read : get_or dst k 0 ≡ get_or d k 0 = ap (λ (m : List ℕ). get_or m k 0) is ∙ get_d_paint (λ j. ltb j k) (λ j. turned_of (get_or d j 0)) d k lt ∙ cond-false (ltb k k) _ _ (le-ltb k k (omega arith)) in
-    let put : b ≡ turned_of (get_or d k 0) = e ∙ ap turned_of read in
-    ap (λ (l : List ℕ). set l k b) is ∙ paint_next (λ j. turned_of (get_or d j 0)) d k b lt put
 
 -- the place i alone, whether there is one or not
 pub turn_place : (d : List ℕ) {was ys : List ℕ} (i : ℕ) → SoFar (λ k. turned_of (get_or d k 0)) d was i

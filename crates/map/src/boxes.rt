@@ -21,21 +21,19 @@ fn set_front(dst: &mut [u8], value: u8, n: usize)
     requires { n ≤ length dst.old }
     ensures { dst.new ≡ paint (λ k. ltb k n) (λ k. value) dst.old }
 {
-    let mut i = 0;
-    while i < n {
+    for i in 0..n {
         dst[i] = value;
-        i += 1;
     }
 }
 
-// Every byte of dst becomes `value`: the first `size` bytes and the last, whatever the two have in common.
-fn set_ends(dst: &mut [u8], value: u8, size: usize)
-    requires { (size ≤ length dst.old) × (length dst.old ≤ 2 * size) }
+// Every byte of dst becomes `value`: the first N bytes and the last, whatever the two have in common.
+fn set_ends<const N: usize>(dst: &mut [u8], value: u8)
+    requires { (N ≤ length dst.old) × (length dst.old ≤ 2 * N) }
     ensures { dst.new ≡ paint every (λ k. value) dst.old }
 {
     let n = dst.len();
-    set_front(dst, value, size);
-    set_front(&mut dst[n - size..n], value, size);
+    set_front(dst, value, N);
+    set_front(&mut dst[n - N..n], value, N);
 }
 
 // Every byte of dst becomes `value`, at most 8 bytes.
@@ -45,11 +43,11 @@ fn set_few(dst: &mut [u8], value: u8)
 {
     let n = dst.len();
     if 4 <= n {
-        set_ends(dst, value, 4);
+        set_ends::<4>(dst, value);
         return;
     }
     if 2 <= n {
-        set_ends(dst, value, 2);
+        set_ends::<2>(dst, value);
         return;
     }
     set_front(dst, value, n);
@@ -70,15 +68,15 @@ fn set_part(dst: &mut [u8], value: u8)
         return;
     }
     if n < 16 {
-        set_ends(dst, value, 8);
+        set_ends::<8>(dst, value);
         return;
     }
     if n < 32 {
-        set_ends(dst, value, 16);
+        set_ends::<16>(dst, value);
         return;
     }
     if n <= 64 {
-        set_ends(dst, value, 32);
+        set_ends::<32>(dst, value);
         return;
     }
     lent::fill(dst, value);
@@ -90,24 +88,10 @@ pub fn set_box(map: &mut [u8], size: Size, area: Area, value: u8)
     ensures { map.new ≡ painted (across_of size) (down_of size) (in_area area) (λ i j. value) map.old }
 {
     let wide = crate::across(size);
-    let mut i = area.top;
-    while i < area.bottom {
+    for i in area.top..area.bottom {
         let line = i * wide;
         set_part(&mut map[line + area.left..line + area.right], value);
-        i += 1;
     }
-}
-
-fn lesser(a: u8, b: u8) -> u8
-    ensures { result ≡ min a b }
-{
-    if a < b { a } else { b }
-}
-
-fn greater(a: u8, b: u8) -> u8
-    ensures { result ≡ max a b }
-{
-    if a < b { b } else { a }
 }
 
 // 1 becomes 2, anything else stays: 0, 2 and 2 stand beside 0, 1 and what is above. Vectors have a lesser and a greater of bytes, and no choice;
@@ -115,7 +99,7 @@ fn greater(a: u8, b: u8) -> u8
 fn turned(b: u8) -> u8
     ensures { result ≡ turned_of b }
 {
-    greater(b, 2 * lesser(b, 1))
+    b.max(2 * b.min(1))
 }
 
 // The first n bytes of dst become those of src, turned. For a count that is fixed, as `lent::copy_front`.
@@ -124,10 +108,8 @@ fn turned_front(dst: &mut [u8], src: &[u8], n: usize)
     requires n_in_bounds_2 { n ≤ length src.now }
     ensures { dst.new ≡ paint (λ k. ltb k n) (λ k. turned_of (get_or src.now k 0)) dst.old }
 {
-    let mut i = 0;
-    while i < n {
+    for i in 0..n {
         dst[i] = turned(src[i]);
-        i += 1;
     }
 }
 
@@ -141,48 +123,19 @@ fn turn_8(dst: &mut [u8])
     lent::copy_front(dst, &t, 8);
 }
 
-// Every 1 of dst becomes 2, 4 to 8 bytes: the first four and the last, whatever the two have in common. What both become is found before one is
-// written, so that each is one load and one store. The size is written out, here and in its likes: where it is handed over, the compiler
-// turns byte by byte.
-fn turn_by_4(dst: &mut [u8])
-    requires { (4 ≤ length dst.old) × (length dst.old ≤ 8) }
+// Every 1 of dst becomes 2, N to 2 N bytes: the first N and the last, whatever the two have in common. What both become is found before one is
+// written, so that each is one load and one store. N is fixed: where a size is handed over, the compiler turns byte by byte.
+fn turn_by<const N: usize>(dst: &mut [u8])
+    requires { (N ≤ length dst.old) × (length dst.old ≤ 2 * N) }
     ensures { dst.new ≡ paint every (λ k. turned_of (get_or dst.old k 0)) dst.old }
 {
     let n = dst.len();
-    let mut first = [0u8; 4];
-    let mut last = [0u8; 4];
-    turned_front(&mut first, dst, 4);
-    turned_front(&mut last, &dst[n - 4..n], 4);
-    lent::copy_front(dst, &first, 4);
-    lent::copy_front(&mut dst[n - 4..n], &last, 4);
-}
-
-// The same of 8 to 16 bytes.
-fn turn_by_8(dst: &mut [u8])
-    requires { (8 ≤ length dst.old) × (length dst.old ≤ 16) }
-    ensures { dst.new ≡ paint every (λ k. turned_of (get_or dst.old k 0)) dst.old }
-{
-    let n = dst.len();
-    let mut first = [0u8; 8];
-    let mut last = [0u8; 8];
-    turned_front(&mut first, dst, 8);
-    turned_front(&mut last, &dst[n - 8..n], 8);
-    lent::copy_front(dst, &first, 8);
-    lent::copy_front(&mut dst[n - 8..n], &last, 8);
-}
-
-// The same of 16 to 32 bytes.
-fn turn_by_16(dst: &mut [u8])
-    requires { (16 ≤ length dst.old) × (length dst.old ≤ 32) }
-    ensures { dst.new ≡ paint every (λ k. turned_of (get_or dst.old k 0)) dst.old }
-{
-    let n = dst.len();
-    let mut first = [0u8; 16];
-    let mut last = [0u8; 16];
-    turned_front(&mut first, dst, 16);
-    turned_front(&mut last, &dst[n - 16..n], 16);
-    lent::copy_front(dst, &first, 16);
-    lent::copy_front(&mut dst[n - 16..n], &last, 16);
+    let mut first = [0u8; N];
+    let mut last = [0u8; N];
+    turned_front(&mut first, dst, N);
+    turned_front(&mut last, &dst[n - N..n], N);
+    lent::copy_front(dst, &first, N);
+    lent::copy_front(&mut dst[n - N..n], &last, N);
 }
 
 // Every 1 of dst becomes 2, 32 to 48 bytes: a row of blocks of a tile 64 pixels wide, with odd edges or without. What the three parts become is
@@ -227,11 +180,8 @@ fn turn_few(dst: &mut [u8])
 fn turn_each(dst: &mut [u8])
     ensures { dst.new ≡ paint every (λ k. turned_of (get_or dst.old k 0)) dst.old }
 {
-    let mut k = 0;
-    while k < dst.len() {
-        let b = dst[k];
-        dst[k] = turned(b);
-        k += 1;
+    for b in dst.iter_mut() {
+        *b = turned(*b);
     }
 }
 
@@ -246,14 +196,14 @@ fn turn_short(dst: &mut [u8])
         return;
     }
     if n < 8 {
-        turn_by_4(dst);
+        turn_by::<4>(dst);
         return;
     }
     if n == 8 {
         turn_8(dst);
         return;
     }
-    turn_by_8(dst);
+    turn_by::<8>(dst);
 }
 
 // Every 1 of dst becomes 2.
@@ -266,7 +216,7 @@ fn turn(dst: &mut [u8])
         return;
     }
     if n < 32 {
-        turn_by_16(dst);
+        turn_by::<16>(dst);
         return;
     }
     if n <= 48 {
@@ -283,10 +233,8 @@ pub fn turn_box(map: &mut [u8], size: Size, area: Area)
         (turned_at map.old (across_of size)) map.old }
 {
     let wide = crate::across(size);
-    let mut row = area.top;
-    while row < area.bottom {
+    for row in area.top..area.bottom {
         let line = row * wide;
         turn(&mut map[line + area.left..line + area.right]);
-        row += 1;
     }
 }

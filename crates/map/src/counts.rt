@@ -1,16 +1,9 @@
 // How many pixels of a rectangle lie in blocks that are not complete.
 ghost use Rattle.std.specs.Prelude.{◌≡◌, ℕ, ◌+◌, ◌*◌, ◌/◌, ◌%◌, ◌≤◌, ◌<◌, true, length, get_or};
-ghost use Rattle.lent.specs.Counts.{one, count_of};
+ghost use Rattle.lent.specs.Counts.{count_of};
 ghost use Rattle.map.specs.Map.{across_of, stale, stale_rows_of, StaleFits};
 
 use picture::Size;
-
-// 1 where b holds, else 0.
-fn one(b: bool) -> u8
-    ensures { (result ≡ one b) × (result ≤ 1) }
-{
-    if b { 1 } else { 0 }
-}
 
 // How many of at most 255 bytes are not 2. The sum fits a byte, so that the compiler counts in vectors of bytes.
 fn few_stale(part: &[u8]) -> u8
@@ -18,20 +11,18 @@ fn few_stale(part: &[u8]) -> u8
     ensures { result ≡ count_of (length part.now) (λ k. stale (get_or part.now k 0)) }
 {
     let mut n: u8 = 0;
-    let mut k = 0;
-    while k < part.len() {
-        n += one(part[k] != 2);
-        k += 1;
+    for b in part {
+        n += u8::from(*b != 2);
     }
     n
 }
 
-// Whether all of 4 to 8 bytes are `value`, by their first four and their last: 16843009 is four bytes of 1.
+// Whether all of 4 to 8 bytes are `value`, by their first four and their last.
 fn all_are(line: &[u8], value: u8) -> bool
     requires { (4 ≤ length line.now) × (length line.now ≤ 8) }
     ensures { result ≡ true → (k : ℕ) → k < length line.now → get_or line.now k 0 ≡ value }
 {
-    let four = 16843009 * (value as u32);
+    let four = u32::from_le_bytes([value; 4]);
     if lent::words::four(line, 0) != four {
         return false;
     }
@@ -44,25 +35,21 @@ fn blocks_stale(line: &[u8]) -> usize
     ensures { result ≡ count_of (length line.now) (λ k. stale (get_or line.now k 0)) }
 {
     let end = line.len();
-    if end <= 8 {
-        if 4 <= end {
-            if all_are(line, 2) {
-                return 0;
-            }
-            if all_are(line, 1) {
-                return end;
-            }
+    if 4 <= end && end <= 8 {
+        if all_are(line, 2) {
+            return 0;
+        }
+        if all_are(line, 1) {
+            return end;
         }
     }
     if end < 256 {
-        return few_stale(line) as usize;
+        return usize::from(few_stale(line));
     }
     let mut n = 0;
-    let mut k = 0;
-    while k < end {
-        let m = lent::least(255, end - k);
-        n += few_stale(&line[k..k + m]) as usize;
-        k += m;
+    for k in (0..end).step_by(255) {
+        let m = (end - k).min(255);
+        n += usize::from(few_stale(&line[k..k + m]));
     }
     n
 }
@@ -75,7 +62,7 @@ fn cut_stale(line: &[u8], column: usize) -> usize
     if column % 2 == 0 {
         return 0;
     }
-    one(line[column / 2] != 2) as usize
+    usize::from(line[column / 2] != 2)
 }
 
 // How many of n pixels of a row, from column `left` on, lie in blocks that are not 2: `line` is the map's row of these blocks. An odd first
@@ -96,10 +83,11 @@ pub fn stale_in(map: &[u8], size: Size, left: usize, top: usize, n: usize, h: us
 {
     let wide = crate::across(size);
     let mut count = 0;
+    // A turn takes one row or two, as `lines` says.
     let mut r = 0;
     while r < h {
         let row = top + r;
-        let lines = lent::least(2 - row % 2, h - r);
+        let lines = (2 - row % 2).min(h - r);
         let start = row / 2 * wide;
         count += lines * row_stale(&map[start..start + wide], left, n);
         r += lines;

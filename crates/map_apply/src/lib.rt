@@ -16,6 +16,8 @@ ghost use Rattle.map_apply.specs.Boxes.{main_limits_of, auxiliary_limits_of, blo
 ghost use Rattle.map_apply.specs.Calls.{MapMainOutcome, MapAuxiliaryOutcome};
 
 use layout::Layout;
+use lent::Answer;
+use lent::refused::Refusal;
 use picture::Size;
 use rects::{Area, Rect};
 use view::View;
@@ -37,13 +39,6 @@ fn main_limits(w: View) -> Limits
     }
 }
 
-// What is left of a, less b.
-fn less(a: usize, b: usize) -> usize
-    ensures { result ≡ a - b }
-{
-    if b < a { a - b } else { 0 }
-}
-
 // Those of which an auxiliary view has all three other samples.
 fn auxiliary_limits(layout: Layout, w: View) -> Limits
     ensures { result ≡ auxiliary_limits_of layout w }
@@ -53,10 +48,10 @@ fn auxiliary_limits(layout: Layout, w: View) -> Limits
     match layout {
         Layout::V1 => Limits {
             across: width / 2,
-            down: 8 * (height / 16) + less(height % 16, 8),
+            down: 8 * (height / 16) + (height % 16).saturating_sub(8),
         },
         Layout::V2(wide) => Limits {
-            across: less(width, wide / 2),
+            across: width.saturating_sub(wide / 2),
             down: height / 2,
         },
     }
@@ -101,10 +96,8 @@ fn mark_rects(map: &mut [u8], size: Size, rects: &[u16], limits: Limits)
         (λ i j. 1) map.old }
 {
     let count = rects.len() / 4;
-    let mut i = 0;
-    while i < count {
+    for i in 0..count {
         mark_rect(map, size, rects::rect_at(rects, i), limits);
-        i += 1;
     }
 }
 
@@ -120,17 +113,16 @@ fn complete_rect(map: &mut [u8], size: Size, rect: Rect, limits: Limits)
     }
 }
 
-// Each block of any rectangle of the list that is 1 becomes 2.
+// Each block of any rectangle of the list that is 1 becomes 2. Apart from `mark_rects`: a block that was turned is not 1 any more, which its proof
+// needs, and one function over both would take that as a parameter.
 fn complete_rects(map: &mut [u8], size: Size, rects: &[u16], limits: Limits)
     requires { down_of size * across_of size ≤ length map.old }
     ensures { map.new ≡ painted (across_of size) (down_of size) (taken (in_blocks size limits) rects.now)
         (turned_at map.old (across_of size)) map.old }
 {
     let count = rects.len() / 4;
-    let mut i = 0;
-    while i < count {
+    for i in 0..count {
         complete_rect(map, size, rects::rect_at(rects, i), limits);
-        i += 1;
     }
 }
 
@@ -146,17 +138,14 @@ pub fn apply_main_view(
     vy: &[u8],
     vu: &[u8],
     vv: &[u8],
-) -> lent::Answer
+) -> Answer
     ensures { MapMainOutcome size w rects.now
         vy.now vu.now vv.now
         y.old u.old v.old map.old
         result (y.new ∷ u.new ∷ v.new ∷ map.new ∷ []) }
 {
     if map::map_short(size, map.len()) {
-        return lent::Answer {
-            number: 1,
-            count: 0,
-        };
+        return Answer::refused(Refusal::PictureShort);
     }
     let done = apply_main::apply_main_view(size, y, u, v, rects, w, vy, vu, vv);
     if done.number != 0 {
@@ -180,7 +169,7 @@ pub fn apply_auxiliary_view(
     vy: &[u8],
     vu: &[u8],
     vv: &[u8],
-) -> lent::Answer
+) -> Answer
     ensures { MapAuxiliaryOutcome layout size w rects.now
         vy.now vu.now vv.now
         y.old u.old v.old map.old
@@ -188,10 +177,7 @@ pub fn apply_auxiliary_view(
 {
     let n = map.len();
     if map::map_short(size, n) {
-        return lent::Answer {
-            number: 1,
-            count: 0,
-        };
+        return Answer::refused(Refusal::PictureShort);
     }
     let given = apply_auxiliary::apply_auxiliary_view(layout, size, y, u, v, rects, w, vy, vu, vv);
     if given.number != 0 {

@@ -3,7 +3,7 @@
 use Prim.Native.Nat.{ℕ, ◌*◌, ◌<◌, ◌≤◌}
 use native.Mathlib.Omega.{arith}
 use mathlib.Core.Path.{◌≡◌, sym}
-use mathlib.Core.Bool.{Bool, true, false, cond}
+use mathlib.Core.Bool.{true, false}
 use mathlib.Core.Logic.Iff
 use mathlib.Core.Logic.{◌↔◌, ◌⊎◌, true-and, and-true}
 use mathlib.Core.List.{List, [], ◌∷◌}
@@ -21,7 +21,7 @@ use Rattle.picture.specs.Sizes.{stride_of, rows_of}
 use Rattle.picture.specs.New.{new_number_of}
 use Rattle.from_rgba.specs.declared.edges.Edge.{Edge}
 use Rattle.from_rgba.specs.FromRgba.{rgba_short, from_number_of}
-use Rattle.to_rgba.specs.declared.Rect.{Rect}
+use Rattle.rects.specs.declared.Rect.{Rect}
 use Rattle.to_rgba.specs.Picture.{to_rgba_count_of, to_rgba_number_of, filtered_in, to_rgba_of}
 use Rattle.map.specs.Map.{across_of, down_of, map_short, picture_short, PictureFits}
 use Rattle.map.proofs.Sizes.{picture_short_exactly, picture_fit_exactly, picture_map_short, picture_planes}
@@ -59,13 +59,6 @@ map_new_unique z y u v m =
     outcome_unique (λ (i : MapNewInput). answer_of (map_new_number i) 0) (λ (i : MapNewInput). map_new_buffers_of (map_new_number i) i.0 i.1 i.2 i.3 i.4) (z, y, u, v, m)
 
 -- ---- from RGBA
-
-pub from_short_some : (z : Size) (k : ℕ) → from_short_of z k ≡ 0 → ⊥
-from_short_some z k = some (rgba_short z k)
-  where
-    some : (b : Bool) → cond {A = ℕ} b 2 1 ≡ 0 → ⊥
-    some true e = omega arith
-    some false e = omega arith
 
 module _ (z : Size) (k ny nu nv n : ℕ) where
   pub map_from_short : map_short z n ≡ true → from_short_of z k ≡ map_from_number_of z k ny nu nv n

@@ -12,7 +12,7 @@ use borrow.Author.Tests.{eq-eqb, ne_eqb}
 use Rattle.lent.proofs.Bools.{cond-true, cond-false, cond_same}
 use Rattle.picture.specs.declared.Size.{Size}
 use Rattle.to_rgba.specs.declared.Pixels as shown-pixels
-use Rattle.to_rgba.specs.declared.Rect.{Rect}
+use Rattle.rects.specs.declared.Rect.{Rect}
 use Rattle.to_rgba.specs.Picture as shown
 use Rattle.to_rgba.specs.Picture.{to_rgba_count_of, pixels_of}
 use Rattle.to_rgba.proofs.Pictured.{some_column, some_row}

@@ -15,7 +15,7 @@ use Rattle.lent.specs.Samples.{sample}
 use Rattle.lent.proofs.Counts.{total_same}
 use Rattle.lent.proofs.Painted.{painted_at}
 use Rattle.picture.specs.declared.Size.{Size}
-use Rattle.to_rgba.specs.declared.Rect.{Rect}
+use Rattle.rects.specs.declared.Rect.{Rect}
 use Rattle.to_rgba.specs.Picture as shown
 use Rattle.to_rgba.specs.Picture.{to_rgba_count_of}
 use Rattle.map.specs.Map.{across_of, down_of, map_of, held_of, stale}

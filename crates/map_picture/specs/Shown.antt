@@ -8,7 +8,7 @@ use Rattle.std.specs.Prelude.{ℕ, cond, List, [], ◌∷◌, ltb, eqb, length}
 use Rattle.lent.specs.Outcome.{Outcome, lent_after}
 use Rattle.lent.specs.Refusal.{refusal}
 use Rattle.picture.specs.declared.Size.{Size}
-use Rattle.to_rgba.specs.declared.Rect.{Rect}
+use Rattle.rects.specs.declared.Rect.{Rect}
 use Rattle.to_rgba.specs.Picture as shown
 use Rattle.to_rgba.specs.Picture.{to_rgba_count_of, filtered_in, to_rgba_of}
 use Rattle.map.specs.Map.{across_of, picture_short, stale_rows_of}

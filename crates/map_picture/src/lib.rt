@@ -7,16 +7,20 @@
 ghost use Rattle.std.specs.Prelude.{◌≡◌, [], ◌∷◌, length};
 ghost use Rattle.colour.specs.declared.Matrix.TheVariants.{Full, Limited};
 ghost use Rattle.from_rgba.specs.declared.edges.Edge.TheVariants.{Fresh, Filled};
+ghost use Rattle.lent.specs.Refused.{number_of};
 ghost use Rattle.map_picture.specs.Made.{from_short_of, MapNewOutcome, MapFromRgbaOutcome};
 ghost use Rattle.map_picture.specs.Shown.{map_pixels_of, MapToRgbaOutcome};
 
 use colour::Matrix;
 use from_rgba::edges::Edge;
+use lent::Answer;
+use lent::refused::Refusal;
 use picture::Size;
 use to_rgba::Rect;
 
 // What picture to RGBA answers: 0 or the number of its refusal, how many bytes it wrote, how many samples of U and of V the filter replaced,
 // and how many pixels lie in blocks that are not complete. In a refusal all counts are 0.
+// Numbers, and no Result: C is handed it as it is.
 #[repr(C)]
 #[derive(Clone, Copy)]
 pub struct Pixels {
@@ -28,15 +32,12 @@ pub struct Pixels {
 }
 
 // A fresh picture, and a map of 0 (picture::new).
-pub fn new(size: Size, y: &mut [u8], u: &mut [u8], v: &mut [u8], map: &mut [u8]) -> lent::Answer
+pub fn new(size: Size, y: &mut [u8], u: &mut [u8], v: &mut [u8], map: &mut [u8]) -> Answer
     ensures { MapNewOutcome size y.old u.old v.old map.old
         result (y.new ∷ u.new ∷ v.new ∷ map.new ∷ []) }
 {
     if map::map_short(size, map.len()) {
-        return lent::Answer {
-            number: 1,
-            count: 0,
-        };
+        return Answer::refused(Refusal::PictureShort);
     }
     let fresh = picture::new(size, y, u, v);
     if fresh.number != 0 {
@@ -46,11 +47,15 @@ pub fn new(size: Size, y: &mut [u8], u: &mut [u8], v: &mut [u8], map: &mut [u8])
     fresh
 }
 
-// The number of from RGBA where the map is short: 2 comes before 1.
-fn from_short(size: Size, n: usize) -> u32
-    ensures { result ≡ from_short_of size n }
+// Why from RGBA is refused where the map is short: 2 comes before 1.
+fn from_short(size: Size, n: usize) -> Refusal
+    ensures { number_of result ≡ from_short_of size n }
 {
-    if from_rgba::rgba_short(size, n) { 2 } else { 1 }
+    if from_rgba::rgba_short(size, n) {
+        Refusal::PixelsShort
+    } else {
+        Refusal::PictureShort
+    }
 }
 
 // The picture of width x height pixels, converted by the matrix, its padding by the edge rule, and a map of 2 (from_rgba::with_edge).
@@ -63,15 +68,12 @@ fn with_edge(
     u: &mut [u8],
     v: &mut [u8],
     map: &mut [u8],
-) -> lent::Answer
+) -> Answer
     ensures { MapFromRgbaOutcome matrix edge rgba.now size y.old u.old v.old map.old
         result (y.new ∷ u.new ∷ v.new ∷ map.new ∷ []) }
 {
     if map::map_short(size, map.len()) {
-        return lent::Answer {
-            number: from_short(size, rgba.len()),
-            count: 0,
-        };
+        return Answer::refused(from_short(size, rgba.len()));
     }
     let made = from_rgba::with_edge(matrix, edge, rgba, size, y, u, v);
     if made.number != 0 {
@@ -89,7 +91,7 @@ pub fn from_rgba(
     u: &mut [u8],
     v: &mut [u8],
     map: &mut [u8],
-) -> lent::Answer
+) -> Answer
     ensures { MapFromRgbaOutcome Full Filled rgba.now size y.old u.old v.old map.old
         result (y.new ∷ u.new ∷ v.new ∷ map.new ∷ []) }
 {
@@ -104,7 +106,7 @@ pub fn from_rgba_limited(
     u: &mut [u8],
     v: &mut [u8],
     map: &mut [u8],
-) -> lent::Answer
+) -> Answer
     ensures { MapFromRgbaOutcome Limited Filled rgba.now size y.old u.old v.old
         map.old result (y.new ∷ u.new ∷ v.new ∷ map.new ∷ []) }
 {
@@ -119,7 +121,7 @@ pub fn from_rgba_rust(
     u: &mut [u8],
     v: &mut [u8],
     map: &mut [u8],
-) -> lent::Answer
+) -> Answer
     ensures { MapFromRgbaOutcome Full Fresh rgba.now size y.old u.old v.old map.old
         result (y.new ∷ u.new ∷ v.new ∷ map.new ∷ []) }
 {
@@ -153,7 +155,7 @@ pub fn to_rgba(
         out.old result (out.new ∷ []) }
 {
     if map::map_short(size, map.len()) {
-        return none(1);
+        return none(Refusal::PictureShort.number());
     }
     let made = to_rgba::to_rgba(size, y, u, v, rect, out);
     if made.number != 0 || made.count == 0 {

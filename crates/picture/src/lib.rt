@@ -8,7 +8,10 @@
 ghost use Rattle.std.specs.Prelude.{◌≡◌, [], ◌∷◌, ◌*◌, ◌≤◌, length};
 ghost use Rattle.lent.specs.Paint.{painted, whole};
 ghost use Rattle.picture.specs.Sizes.{stride_of, rows_of, allocation_size_of, planes_short};
-ghost use Rattle.picture.specs.New.{new_number_of, NewOutcome};
+ghost use Rattle.picture.specs.New.{NewOutcome};
+
+use lent::Answer;
+use lent::refused::Refusal;
 
 // A picture's width and height in pixels.
 #[derive(Clone, Copy)]
@@ -64,32 +67,18 @@ pub fn fill_plane(plane: &mut [u8], stride: usize, rows: usize, value: u8)
     lent::fill(&mut plane[..n], value);
 }
 
-// The number of `new`: 1 or 0.
-fn new_number(size: Size, ny: usize, nu: usize, nv: usize) -> u32
-    ensures { result ≡ new_number_of size ny nu nv }
-{
-    if planes_short(size, ny, nu, nv) {
-        return 1;
-    }
-    0
-}
-
 // A fresh picture: Y 0, U and V 128. Ports `Yuv444Frame::new`.
-pub fn new(size: Size, y: &mut [u8], u: &mut [u8], v: &mut [u8]) -> lent::Answer
+pub fn new(size: Size, y: &mut [u8], u: &mut [u8], v: &mut [u8]) -> Answer
     ensures { NewOutcome size y.old u.old v.old
         result (y.new ∷ u.new ∷ v.new ∷ []) }
 {
-    let number = new_number(size, y.len(), u.len(), v.len());
-    if number != 0 {
-        return lent::Answer { number, count: 0 };
+    if planes_short(size, y.len(), u.len(), v.len()) {
+        return Answer::refused(Refusal::PictureShort);
     }
     let stride = stride(size);
     let rows = rows(size);
     fill_plane(y, stride, rows, 0);
     fill_plane(u, stride, rows, 128);
     fill_plane(v, stride, rows, 128);
-    lent::Answer {
-        number: 0,
-        count: 0,
-    }
+    Answer::done(0)
 }

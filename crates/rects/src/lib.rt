@@ -1,15 +1,19 @@
 // Rectangle lists, the widened area, the columns whose luma a rectangle takes, and the refusals of an apply call.
 #![tactic(auto)]
 
-ghost use Rattle.std.specs.Prelude.{◌≡◌, ◌*◌, ◌/◌, ◌<◌, min, length};
+ghost use Rattle.std.specs.Prelude.{◌≡◌, ◌*◌, ◌/◌, ◌<◌, min, length, IfOk};
+ghost use Rattle.lent.specs.Refused.{number_in};
+ghost use Rattle.view.specs.Over.{Over};
 ghost use Rattle.lent.specs.Sizes.{round_up};
 ghost use Rattle.rects.specs.Rects.{chroma_block_area_of, rect_at_of};
 ghost use Rattle.rects.specs.Number.{apply_number_of};
 
+use lent::refused::Refusal;
 use picture::Size;
 use view::View;
+use view::frame::Frame;
 
-// A rectangle of a list: right and bottom are exclusive.
+// A rectangle of a list, or one that is shown: right and bottom are exclusive.
 #[derive(Clone, Copy)]
 pub struct Rect {
     pub left: u16,
@@ -83,25 +87,27 @@ pub fn luma_right(size: Size, rect: Rect, w: View) -> usize
     lent::least(right, w.width as usize)
 }
 
-// 0, or the refusal of an apply call: the picture's planes are ny, nu and nv bytes long, the list is nr numbers long.
-pub fn apply_number(
+// The view of an apply call, or why it is refused: the picture's planes are ny, nu and nv bytes long, the list is nr numbers long.
+pub fn check<'a>(
     size: Size,
     ny: usize,
     nu: usize,
     nv: usize,
     nr: usize,
     w: View,
-    vy: &[u8],
-    vu: &[u8],
-    vv: &[u8],
-) -> u32
-    ensures { result ≡ apply_number_of size w ny nu nv nr (length vy.now) (length vu.now) (length vv.now) }
+    vy: &'a [u8],
+    vu: &'a [u8],
+    vv: &'a [u8],
+) -> Result<Frame<'a>, Refusal>
+    ensures number { number_in result
+        ≡ apply_number_of size w ny nu nv nr (length vy.now) (length vu.now) (length vv.now) }
+    ensures over { IfOk result (λ frame. Over frame w vy.entry vu.entry vv.entry) }
 {
     if picture::planes_short(size, ny, nu, nv) {
-        return 1;
+        return Err(Refusal::PictureShort);
     }
     if nr % 4 != 0 {
-        return 7;
+        return Err(Refusal::ListUneven);
     }
-    view::view_number(w, vy, vu, vv)
+    Frame::new(w, vy, vu, vv)
 }

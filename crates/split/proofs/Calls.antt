@@ -7,6 +7,9 @@ use mathlib.Core.Bool.{true, false}
 use mathlib.Core.List.{[], ◌∷◌}
 use lib.Dec.{eqb}
 use borrow.Author.Tests.{eq-eqb, ne_eqb}
+use Rattle.lent.specs.Refused.{number_of}
+use Rattle.lent.specs.declared.refused.Refusal.{Refusal}
+use Rattle.lent.proofs.Answered.{never_0}
 use Rattle.lent.proofs.Exactly.{nor}
 use Rattle.picture.specs.declared.Size.{Size}
 use Rattle.picture.specs.Sizes.{stride_of, rows_of}
@@ -21,6 +24,7 @@ use Rattle.split.proofs.Short.{view_room}
 use Rattle.split.specs.Split.{Planes, lengths_of, split_layout_of, split_wide_of, main_sample, auxiliary_sample, view_short, split_number_of, split_answer_of, split_buffers_of, Written, SplitOutcome}
 use Rattle.split_views.specs.Fits.{MacroblocksFit, WideEnough}
 use Rattle.split.specs.Accepted.{SplitAccepted}
+use Rattle.split.specs.Refused.{refused_with}
 
 whole_plane : (z : Size) {n : ℕ} → rows_of z * stride_of z ≤ n → MacroblocksFit n (stride_of z) (rows_of z)
 whole_plane z fits = record { fits = fits; wide = omega arith; high = omega arith }
@@ -44,6 +48,10 @@ accepted t z p m a e =
       auxiliary_room = view_room (split_wide_of t z) z a out.1;
       small = f.1.0;
     }
+
+-- a refused split has no sizes
+pub refused_answer : (t : Way) (z : Size) (r : Refusal) → refused_with r ≡ split_answer_of t z (number_of r)
+refused_answer t z r = rw (ne_eqb (number_of r) 0 (never_0 r)) refl
 
 module _ (t : Way) (z : Size) (p m a : Planes) {n : ℕ} {r : Views} (is : n ≡ split_number_of t z (lengths_of p) (lengths_of m) (lengths_of a)) where
   pub refused : (n ≡ 0 → ⊥) → r ≡ split_answer_of t z n → SplitOutcome t z p m a r (m.y ∷ m.u ∷ m.v ∷ a.y ∷ a.u ∷ a.v ∷ [])

@@ -7,12 +7,12 @@
 #![tactic(auto)]
 
 pub mod both; // both views, written
-pub mod number; // 1, 5 or 6, and the answer
+pub mod number; // whether it is refused, and the answer
 
 ghost use Rattle.std.specs.Prelude.{[], ◌∷◌};
 ghost use Rattle.split.specs.Split.{at_entry, SplitOutcome, planes};
 
-pub use crate::number::{PlaneLengths, Views, split_number};
+pub use crate::number::{PlaneLengths, Views, check};
 use layout::Way;
 
 // Both views of the picture, in the way that is asked for. Ports `Yuv444Frame::split`.
@@ -34,24 +34,12 @@ pub fn split(
         (main_y.new ∷ main_u.new ∷ main_v.new
         ∷ auxiliary_y.new ∷ auxiliary_u.new ∷ auxiliary_v.new ∷ []) }
 {
-    let from = PlaneLengths {
-        y: y.len(),
-        u: u.len(),
-        v: v.len(),
-    };
-    let main = PlaneLengths {
-        y: main_y.len(),
-        u: main_u.len(),
-        v: main_v.len(),
-    };
-    let auxiliary = PlaneLengths {
-        y: auxiliary_y.len(),
-        u: auxiliary_u.len(),
-        v: auxiliary_v.len(),
-    };
-    let number = split_number(way, size, from, main, auxiliary);
-    if number != 0 {
-        return crate::number::split_answer(way, size, number);
+    let from = PlaneLengths::of(y, u, v);
+    let main = PlaneLengths::of(main_y, main_u, main_v);
+    let auxiliary = PlaneLengths::of(auxiliary_y, auxiliary_u, auxiliary_v);
+    let checked = check(way, size, from, main, auxiliary);
+    if let Err(refusal) = checked {
+        return Views::refused(refusal);
     }
     crate::both::both_views(
         way,
@@ -66,5 +54,5 @@ pub fn split(
         auxiliary_u,
         auxiliary_v,
     );
-    crate::number::split_answer(way, size, 0)
+    Views::of(way, size)
 }

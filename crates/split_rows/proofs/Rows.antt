@@ -3,7 +3,7 @@
 use Prim.Native.Nat.{ℕ, ◌+◌, ◌*◌, ◌-◌, ◌/◌, ◌%◌, ◌<◌, ◌≤◌}
 use native.Mathlib.Nat.{mul-add, mul-le-mul_left}
 use native.Mathlib.Omega.{arith}
-use mathlib.Core.Path.{◌≡◌, refl, sym, ap, ◌∙◌}
+use mathlib.Core.Path.{◌≡◌, refl, sym, ap, subst, ◌∙◌}
 use mathlib.Core.Bool.{Bool, cond}
 use mathlib.Core.Logic.{⊎_elim}
 use mathlib.Core.List.{List, ◌++◌}
@@ -94,6 +94,10 @@ picked_more step stride row first plane xs was ys a e low ordered fits before is
     let next : a + j + 1 ≤ e = omega arith in
     part_sample_lem plane stride row (row * stride) (step * a) (step * e) (step * j + first) refl (omega (arith, mul-le-mul_left step next, mul-add step (a + j) 1)) ∙ ap (sample plane stride row) at)
 
+-- the bytes below i are written, by another name of i
+pub so_far_at : (s : ℕ → ℕ) (xs : List ℕ) {ys : List ℕ} {i j : ℕ} → SoFar s xs ys i → i ≡ j → SoFar s xs ys j
+so_far_at s xs {ys} before is = subst (λ (i : ℕ). SoFar s xs ys i) is before
+
 -- the bytes below n and those from n to e, lent one after the other and painted from f and from g, are the whole row
 pub two_parts : (xs ys zs : List ℕ) (n e : ℕ) (f g s : ℕ → ℕ) → length xs ≡ e → n ≤ e
     → ys ≡ paint every f (take (n - 0) (drop 0 xs))
@@ -124,6 +128,19 @@ pub row_goes_on : (fill : ℕ) (plane : List ℕ) (stride row : ℕ) (at : ℕ �
 row_goes_on fill plane stride row at xs ys zs n e long less below past is is' =
     two_parts xs ys zs n e _ _ _ long less is is' (λ j h. seen_inside fill plane stride row (at j) (below j h)) (λ j h. seen_past fill plane stride row (at (n + j)) (past j))
 
+-- the columns of such a row where each step-th sample is taken: those that are taken are below the stride, the others are not
+module _ (step stride first : ℕ) (low : first < step) (even : stride % step ≡ 0) where
+  pub picked_below : (j : ℕ) → j < stride / step → step * j + first < stride
+  picked_below j h =
+      let next : j + 1 ≤ stride / step = omega arith in
+      omega (arith, mul-add step j 1, mul-le-mul_left step next)
+
+  pub picked_past : (j : ℕ) → stride ≤ step * (stride / step + j) + first
+  picked_past j = omega (arith, mul-add step (stride / step) j)
+
+  pub picked_room : (n : ℕ) → stride ≤ step * n → stride / step ≤ n
+  picked_room n room = grind arith
+
 -- every second byte of every second byte is every fourth one
 pub fourths_twice : (src z dst : List ℕ) (first : ℕ) → 2 * length dst ≤ length z → first < 4
     → paint every (λ k. get_or (paint every (λ j. get_or src (2 * j + first % 2) 0) z) (2 * k + first / 2) 0) dst ≡ paint every (λ k. get_or src (4 * k + first) 0) dst
@@ -144,11 +161,11 @@ module _ (src z dst : List ℕ) (n : ℕ) (most : length dst ≤ n) (room : leng
   pub first_of_lem : {first : ℕ} → first ≡ 0 → (k : ℕ) → k < length dst → get_or paired k 0 % 256 ≡ get_or src (2 * k + first) 0
   first_of_lem {first} none k h = let is : 2 * k ≡ 2 * k + first = omega arith in omega (arith, paired_at k h, byte (2 * k)) ∙ ap (λ (j : ℕ). get_or src j 0) is
 
-  pub last_of : {first : ℕ} → first ≡ 1 → (k : ℕ) → k < length dst → get_or paired k 0 / 256 ≡ get_or src (2 * k + first) 0
-  last_of {first} one k h = let is : 2 * k + 1 ≡ 2 * k + first = omega arith in omega (arith, paired_at k h, byte (2 * k)) ∙ ap (λ (j : ℕ). get_or src j 0) is
+  pub last_of : {first : ℕ} → first ≡ 1 → (k : ℕ) → k < length dst → get_or paired k 0 / 256 % 256 ≡ get_or src (2 * k + first) 0
+  last_of {first} one k h = let is : 2 * k + 1 ≡ 2 * k + first = omega arith in omega (arith, paired_at k h, byte (2 * k), byte (2 * k + 1)) ∙ ap (λ (j : ℕ). get_or src j 0) is
 
   pub firsts_of : {first : ℕ} → first ≡ 0 → paint every (λ k. get_or paired k 0 % 256) dst ≡ paint every (λ k. get_or src (2 * k + first) 0) dst
   firsts_of none = paint_ext every every _ _ dst (λ k h. refl) (λ k h e. first_of_lem none k h)
 
-  pub lasts_of : {first : ℕ} → first ≡ 1 → paint every (λ k. get_or paired k 0 / 256) dst ≡ paint every (λ k. get_or src (2 * k + first) 0) dst
+  pub lasts_of : {first : ℕ} → first ≡ 1 → paint every (λ k. get_or paired k 0 / 256 % 256) dst ≡ paint every (λ k. get_or src (2 * k + first) 0) dst
   lasts_of one = paint_ext every every _ _ dst (λ k h. refl) (λ k h e. last_of one k h)

@@ -21,8 +21,7 @@ fn luma(layout: Layout, out: &mut [u8], u: &[u8], v: &[u8], stride: usize, wide:
     ensures { out.new ≡ painted wide rows whole
         (auxiliary_sample layout stride u.now v.now PY) out.old }
 {
-    let mut row = 0;
-    while row < rows {
+    for row in 0..rows {
         let line = row * wide;
         crate::auxiliary_rows::luma_row(
             layout,
@@ -33,7 +32,6 @@ fn luma(layout: Layout, out: &mut [u8], u: &[u8], v: &[u8], stride: usize, wide:
             wide,
             row,
         );
-        row += 1;
     }
 }
 
@@ -56,9 +54,7 @@ fn v2_chroma(
         (λ r. v2_chroma_sample wide stride u.now v.now first (2 * r + 1)) out.old }
 {
     let half = wide / 2;
-    let high = rows / 2;
-    let mut row = 0;
-    while row < high {
+    for row in 0..rows / 2 {
         let line = row * half;
         crate::auxiliary_rows::v2_chroma_row(
             &mut out[line..line + half],
@@ -69,11 +65,11 @@ fn v2_chroma(
             2 * row + 1,
             first,
         );
-        row += 1;
     }
 }
 
 // The U plane, or the V plane: in V1 from the picture's plane of the same name, `own`, in V2 from both, every fourth column from `first` on.
+#[tactic(auto, unfolding(crate::specs::Chroma::chroma_sample))]
 fn chroma(
     layout: Layout,
     out: &mut [u8],

@@ -22,9 +22,9 @@ fn v1_luma_row(out: &mut [u8], u: &[u8], v: &[u8], stride: usize, row: usize)
     let block = row - within;
     if within < 8 {
         split_rows::copy_row(out, u, stride, block + 2 * within + 1);
-        return;
+    } else {
+        split_rows::copy_row(out, v, stride, block + 2 * (within - 8) + 1);
     }
-    split_rows::copy_row(out, v, stride, block + 2 * (within - 8) + 1);
 }
 
 // V2, a luma row: the odd columns of U, then those of V, each with 128 past the stride.
@@ -38,8 +38,8 @@ fn v2_luma_row(out: &mut [u8], u: &[u8], v: &[u8], stride: usize, wide: usize, r
         out.old }
 {
     let half = wide / 2;
-    split_rows::seconds_wide(&mut out[0..half], u, stride, row, 1, 128);
-    split_rows::seconds_wide(&mut out[half..wide], v, stride, row, 1, 128);
+    split_rows::picked_wide::<2>(&mut out[0..half], u, stride, row, 1, 128);
+    split_rows::picked_wide::<2>(&mut out[half..wide], v, stride, row, 1, 128);
 }
 
 // A luma row, in either layout.
@@ -88,6 +88,6 @@ pub fn v2_chroma_row(
 {
     let half = wide / 2;
     let quarter = wide / 4;
-    split_rows::fourths_wide(&mut out[0..quarter], u, stride, row, first, 128);
-    split_rows::fourths_wide(&mut out[quarter..half], v, stride, row, first, 128);
+    split_rows::picked_wide::<4>(&mut out[0..quarter], u, stride, row, first, 128);
+    split_rows::picked_wide::<4>(&mut out[quarter..half], v, stride, row, first, 128);
 }

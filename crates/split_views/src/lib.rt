@@ -19,11 +19,9 @@ fn main_luma(out: &mut [u8], plane: &[u8], stride: usize, wide: usize, rows: usi
     requires stride_le_wide { stride ≤ wide }
     ensures { out.new ≡ painted wide rows whole (seen 0 plane.now stride) out.old }
 {
-    let mut row = 0;
-    while row < rows {
+    for row in 0..rows {
         let line = row * wide;
         split_rows::copy_wide(&mut out[line..line + wide], plane, stride, row, 0);
-        row += 1;
     }
 }
 
@@ -44,11 +42,9 @@ pub fn half_plane(
         (λ r c. seen 128 plane.now stride (2 * r) (2 * c + first)) out.old }
 {
     let half = wide / 2;
-    let high = rows / 2;
-    let mut row = 0;
-    while row < high {
+    for row in 0..rows / 2 {
         let line = row * half;
-        split_rows::seconds_wide(
+        split_rows::picked_wide::<2>(
             &mut out[line..line + half],
             plane,
             stride,
@@ -56,7 +52,6 @@ pub fn half_plane(
             first,
             128,
         );
-        row += 1;
     }
 }
 

@@ -6,3 +6,4 @@ pub mod Ends
 pub mod Laws
 pub mod Inside
 pub mod Worked
+pub mod Searched

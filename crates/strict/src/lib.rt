@@ -7,15 +7,19 @@
 pub mod lists; // the faults of a rectangle, and a list searched for one
 
 ghost use Rattle.std.specs.Prelude.{◌≡◌, [], ◌∷◌, length};
-ghost use Rattle.strict.specs.Sound.{first_unsound_of};
+ghost use Rattle.lent.specs.Refused.{number_in};
+ghost use Rattle.strict.specs.Sound.{none_unsound, first_unsound_of};
 ghost use Rattle.strict.specs.Calls.{strict_number_of, StrictMainOutcome, StrictAuxiliaryOutcome};
 
 use layout::Layout;
+use lent::Answer;
+use lent::refused::Refusal;
 use picture::Size;
 use view::View;
 
 // The first unsound rectangle of a list: whether there is one, its fault (1 to 4) and its index; both are 0 where there is none. The number is
 // 0, or 7 where the list's length is no multiple of 4, and then none is looked for.
+// A flag beside numbers, and no Option: C is handed it as it is.
 #[repr(C)]
 #[derive(Clone, Copy)]
 pub struct Unsound {
@@ -25,37 +29,39 @@ pub struct Unsound {
     pub index: usize,
 }
 
+// The answer where no unsound rectangle is named.
+fn none(number: u32) -> Unsound
+    ensures { result ≡ none_unsound number }
+{
+    Unsound {
+        number,
+        present: false,
+        fault: 0,
+        index: 0,
+    }
+}
+
 // What a log says of a list that was refused (R87).
 pub fn first_unsound(size: Size, rects: &[u16]) -> Unsound
     ensures { result ≡ first_unsound_of size rects.now }
 {
     if rects.len() % 4 != 0 {
-        return Unsound {
-            number: 7,
-            present: false,
-            fault: 0,
-            index: 0,
-        };
+        return none(Refusal::ListUneven.number());
     }
-    let index = lists::first_unsound_index(size, rects);
-    if rects.len() / 4 <= index {
-        return Unsound {
-            number: 0,
-            present: false,
-            fault: 0,
-            index: 0,
-        };
-    }
+    let Some(index) = lists::first_unsound_index(size, rects) else {
+        return none(0);
+    };
+    let fault = lists::fault_of(size, rects::rect_at(rects, index));
     Unsound {
         number: 0,
         present: true,
-        fault: lists::fault_of(size, rects::rect_at(rects, index)),
+        fault: lists::number(fault),
         index,
     }
 }
 
-// 0, or the refusal of a strict call: the picture's planes and its map are ny, nu, nv and nm bytes long.
-fn strict_number(
+// Whether a strict call is refused, and why: the picture's planes and its map are ny, nu, nv and nm bytes long.
+fn check(
     size: Size,
     ny: usize,
     nu: usize,
@@ -66,23 +72,23 @@ fn strict_number(
     vy: &[u8],
     vu: &[u8],
     vv: &[u8],
-) -> u32
-    ensures { result ≡ strict_number_of size w rects.now ny nu nv nm
+) -> Result<(), Refusal>
+    ensures { number_in result ≡ strict_number_of size w rects.now ny nu nv nm
         (length vy.now) (length vu.now) (length vv.now) }
 {
     if map::map_short(size, nm) {
-        return 1;
+        return Err(Refusal::PictureShort);
     }
     if picture::planes_short(size, ny, nu, nv) {
-        return 1;
+        return Err(Refusal::PictureShort);
     }
     if rects.len() % 4 != 0 {
-        return 7;
+        return Err(Refusal::ListUneven);
     }
     if lists::unsound(size, rects) {
-        return 12;
+        return Err(Refusal::RectangleUnsound);
     }
-    view::view_number(w, vy, vu, vv)
+    view::check(w, vy, vu, vv)
 }
 
 // The main view goes into the picture and its map as by map_apply::apply_main_view, if every rectangle is sound.
@@ -97,13 +103,13 @@ pub fn apply_main_view_strict(
     vy: &[u8],
     vu: &[u8],
     vv: &[u8],
-) -> lent::Answer
+) -> Answer
     ensures { StrictMainOutcome size w rects.now
         vy.now vu.now vv.now
         y.old u.old v.old map.old
         result (y.new ∷ u.new ∷ v.new ∷ map.new ∷ []) }
 {
-    let number = strict_number(
+    let checked = check(
         size,
         y.len(),
         u.len(),
@@ -115,8 +121,8 @@ pub fn apply_main_view_strict(
         vu,
         vv,
     );
-    if number != 0 {
-        return lent::Answer { number, count: 0 };
+    if let Err(refusal) = checked {
+        return Answer::refused(refusal);
     }
     map_apply::apply_main_view(size, y, u, v, map, rects, w, vy, vu, vv)
 }
@@ -134,13 +140,13 @@ pub fn apply_auxiliary_view_strict(
     vy: &[u8],
     vu: &[u8],
     vv: &[u8],
-) -> lent::Answer
+) -> Answer
     ensures { StrictAuxiliaryOutcome layout size w rects.now
         vy.now vu.now vv.now
         y.old u.old v.old map.old
         result (y.new ∷ u.new ∷ v.new ∷ map.new ∷ []) }
 {
-    let found = strict_number(
+    let found = check(
         size,
         y.len(),
         u.len(),
@@ -152,11 +158,8 @@ pub fn apply_auxiliary_view_strict(
         vu,
         vv,
     );
-    if found != 0 {
-        return lent::Answer {
-            number: found,
-            count: 0,
-        };
+    if let Err(why) = found {
+        return Answer::refused(why);
     }
     map_apply::apply_auxiliary_view(layout, size, y, u, v, map, rects, w, vy, vu, vv)
 }

@@ -12,7 +12,7 @@ use Rattle.lent.proofs.Counts.{total-one, total_low, count_low}
 use Rattle.picture.specs.declared.Size.{Size}
 use Rattle.picture.specs.Sizes.{stride_of, rows_of}
 use Rattle.picture.proofs.Sizes.{planes_fit}
-use Rattle.to_rgba.specs.declared.Rect.{Rect}
+use Rattle.rects.specs.declared.Rect.{Rect}
 use Rattle.to_rgba.specs.Pictured.{pictured, shifted}
 use Rattle.to_rgba_rows.specs.Rules.{filtered_at, row_filtered_of, pixel_at}
 use Rattle.to_rgba.specs.Picture.{across_of, down_of, to_rgba_count_of, filtered_rows_of, filtered_in, to_rgba_number_of, to_rgba_of}

@@ -9,7 +9,7 @@ use Rattle.lent.proofs.Outcome.{outcome_unique}
 use Rattle.picture.specs.declared.Size.{Size}
 use Rattle.view.specs.declared.View.{View}
 use Rattle.to_rgba.specs.declared.Pixels.{Pixels}
-use Rattle.to_rgba.specs.declared.Rect.{Rect}
+use Rattle.rects.specs.declared.Rect.{Rect}
 use Rattle.to_rgba.specs.Picture.{to_rgba_count_of, filtered_in, pixels_of, to_rgba_number_of, to_rgba_of, ToRgbaOutcome}
 use Rattle.to_rgba.specs.View.{view_to_rgba_count_of, view_to_rgba_number_of, view_to_rgba_of, ViewToRgbaOutcome}
 

@@ -2,4 +2,3 @@
 pub mod Pictured
 pub mod Picture
 pub mod View
-pub mod Fits

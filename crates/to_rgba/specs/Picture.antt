@@ -20,7 +20,7 @@ use Rattle.lent.specs.Refusal.{refusal}
 use Rattle.picture.specs.declared.Size.{Size}
 use Rattle.picture.specs.Sizes.{stride_of, planes_short}
 use Rattle.to_rgba.specs.declared.Pixels.{Pixels}
-use Rattle.to_rgba.specs.declared.Rect.{Rect}
+use Rattle.rects.specs.declared.Rect.{Rect}
 use Rattle.to_rgba.specs.Pictured.{pictured, shifted}
 use Rattle.to_rgba_rows.specs.Rules.{pixel_at, row_filtered_of}
 

@@ -17,15 +17,13 @@ fn limited_row(out: &mut [u8], y: &[u8], at: usize, u: &[u8], v: &[u8], c: usize
         (bytes (paired_from limited_reverse_of y.now at u.now v.now c)) out.old }
 {
     let pairs = n / 2;
-    let mut i = 0;
-    while i < pairs {
+    for i in 0..pairs {
         let j = 2 * i;
         let w = lent::words::two(y, at + j);
         let p = u[c + i];
         let q = v[c + i];
         lent::put_pixel(out, j, colour::limited::reverse((w % 256) as u8, p, q));
         lent::put_pixel(out, j + 1, colour::limited::reverse((w / 256) as u8, p, q));
-        i += 1;
     }
     let end = 2 * pairs;
     if end < n {
@@ -56,8 +54,7 @@ pub fn limited_lines(
 {
     let half = row / 2 * chroma;
     let wide = 4 * n;
-    let mut l = 0;
-    while l < lines {
+    for l in 0..lines {
         let start = l * wide;
         limited_row(
             &mut out[start..start + wide],
@@ -68,6 +65,5 @@ pub fn limited_lines(
             half,
             n,
         );
-        l += 1;
     }
 }

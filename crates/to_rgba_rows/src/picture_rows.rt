@@ -4,11 +4,10 @@
 // Parts of at most 64 pixels; of an even row each part starts at an even column, so that its samples are filtered in pairs: two columns are
 // one word, since a loop that reads or writes every second byte is no vector code.
 ghost use Rattle.std.specs.Prelude.{◌≡◌, [], ◌∷◌, ◌+◌, ◌*◌, ◌/◌, ◌%◌, ◌≤◌, ◌<◌, ltb, length, get_or, set};
-ghost use Rattle.lent.specs.Counts.{one, total};
+ghost use Rattle.lent.specs.Counts.{total};
 ghost use Rattle.lent.specs.Paint.{paint, every};
 ghost use Rattle.lent.specs.Pixels.{bytes, done};
 ghost use Rattle.colour.specs.Colour.{reverse_of, filter_of, applied_in, undone_in};
-ghost use Rattle.colour.specs.Products.{Tables};
 ghost use Rattle.to_rgba_rows.specs.Rules.{
   corners_at,
   pixel_at,
@@ -32,12 +31,9 @@ pub struct Filtered {
 fn undone(upper: u16, lower: u16) -> colour::Undone
     ensures { result ≡ undone_in (upper % 256 ∷ upper / 256 ∷ lower % 256 ∷ lower / 256 ∷ []) }
 {
-    let samples = [
-        (upper % 256) as u8,
-        (upper / 256) as u8,
-        (lower % 256) as u8,
-        (lower / 256) as u8,
-    ];
+    let [a, b] = upper.to_le_bytes();
+    let [c, d] = lower.to_le_bytes();
+    let samples = [a, b, c, d];
     colour::filter(colour::Block { samples })
 }
 
@@ -63,12 +59,6 @@ fn smoothed_block(dst: &mut [u8; 64], k: usize, p: &[u8], at: usize, below: usiz
     f.applied
 }
 
-fn one(b: bool) -> u16
-    ensures { (result ≡ one b) × (result ≤ 1) }
-{
-    if b { 1 } else { 0 }
-}
-
 // The first columns of p and q, two for each block, become those of the rows of U and V from `at` on, filtered with the rows from `below` on. Each
 // block is marked: 1 where the filter was applied in U, 256 where in V. Marked and not summed up, since of a loop with a sum the compiler
 // makes turns of 16 blocks, and the rows of a small rectangle have fewer.
@@ -88,13 +78,11 @@ fn smoothed(
     ensures marks { marks.new ≡ paint (λ i. ltb i blocks)
         (mark_of u.now v.now at below) marks.old }
 {
-    let mut i = 0;
-    while i < blocks {
+    for i in 0..blocks {
         let k = 2 * i;
         let in_u = smoothed_block(p, k, u, at + k, below + k);
         let in_v = smoothed_block(q, k, v, at + k, below + k);
-        marks[i] = one(in_u) + 256 * one(in_v);
-        i += 1;
+        marks[i] = in_u as u16 + 256 * in_v as u16;
     }
 }
 
@@ -105,10 +93,8 @@ fn counted(marks: &[u16; 32]) -> Filtered
         × (result.v ≡ total 32 (λ i. get_or marks.now i 0) / 256) }
 {
     let mut sum: u16 = 0;
-    let mut i = 0;
-    while i < 32 {
-        sum += marks[i];
-        i += 1;
+    for mark in marks {
+        sum += *mark;
     }
     Filtered {
         u: (sum % 256) as usize,
@@ -125,13 +111,8 @@ fn even_part(
     at: usize,
     below: usize,
     n: usize,
-    rv: &colour::Table,
-    gu: &colour::Table,
-    gv: &colour::Table,
-    bu: &colour::Table,
 ) -> Filtered
-    requires even_part_fits { EvenPartFits (length out.old) (length y.now) (length u.now) (length v.now) at below n }
-    requires tables { Tables rv.now gu.now gv.now bu.now }
+    requires { EvenPartFits (length out.old) (length y.now) (length u.now) (length v.now) at below n }
     ensures out_after { out.new ≡ paint every (bytes (λ k. reverse_of (get_or y.now (at + k) 0)
         (smooth_from u.now at below k) (smooth_from v.now at below k))) out.old }
     ensures value { result ≡ in_both (filtered_from at below n) u.now v.now }
@@ -140,7 +121,7 @@ fn even_part(
     let mut q = [0u8; 64];
     let mut marks = [0u16; 32];
     smoothed(&mut p, &mut q, &mut marks, u, v, at, below, (n + 1) / 2);
-    crate::part(out, y, at, &p, &q, 0, n, rv, gu, gv, bu);
+    crate::part(out, y, at, &p, &q, 0, n);
     counted(&marks)
 }
 
@@ -154,36 +135,17 @@ fn odd_row(
     row: usize,
     left: usize,
     n: usize,
-    rv: &colour::Table,
-    gu: &colour::Table,
-    gv: &colour::Table,
-    bu: &colour::Table,
 )
-    requires row_fits { RowFits (length out.old) (length y.now) (length u.now) (length v.now) stride stride row left n }
-    requires tables { Tables rv.now gu.now gv.now bu.now }
+    requires { RowFits (length out.old) (length y.now) (length u.now) (length v.now) stride stride row left n }
     ensures { row % 2 ≡ 1 → out.new ≡ paint every
         (bytes (row_from left (pixel_at stride y.now u.now v.now row)))
         out.old }
 {
     let at = row * stride + left;
-    let mut k = 0;
-    while k < n {
-        let m = lent::least(n - k, 64);
+    for k in (0..n).step_by(64) {
+        let m = (n - k).min(64);
         let here = at + k;
-        crate::part(
-            &mut out[4 * k..4 * (k + m)],
-            y,
-            here,
-            u,
-            v,
-            here,
-            m,
-            rv,
-            gu,
-            gv,
-            bu,
-        );
-        k += m;
+        crate::part(&mut out[4 * k..4 * (k + m)], y, here, u, v, here, m);
     }
 }
 
@@ -197,20 +159,15 @@ fn even_head(
     row: usize,
     left: usize,
     n: usize,
-    rv: &colour::Table,
-    gu: &colour::Table,
-    gv: &colour::Table,
-    bu: &colour::Table,
 )
     requires row_fits { RowFits (length out.old) (length y.now) (length u.now) (length v.now) stride stride row left n }
     requires n_nonzero { 0 < n }
-    requires tables { Tables rv.now gu.now gv.now bu.now }
     ensures { out.new ≡ done
         (row_from left (pixel_at stride y.now u.now v.now row)) (left % 2) out.old }
 {
     if left % 2 == 1 {
         let at = row * stride + left;
-        crate::part(&mut out[0..4], y, at, u, v, at, 1, rv, gu, gv, bu);
+        crate::part(&mut out[0..4], y, at, u, v, at, 1);
     }
 }
 
@@ -224,26 +181,20 @@ fn even_row(
     row: usize,
     left: usize,
     n: usize,
-    rv: &colour::Table,
-    gu: &colour::Table,
-    gv: &colour::Table,
-    bu: &colour::Table,
 ) -> Filtered
     requires row_fits { RowFits (length out.old) (length y.now) (length u.now) (length v.now) (2 * stride) stride row left n }
     requires stride_value { (stride % 2 ≡ 0) × (0 < n) }
-    requires tables { Tables rv.now gu.now gv.now bu.now }
     ensures out_after { row % 2 ≡ 0 → out.new ≡ paint every
         (bytes (row_from left (pixel_at stride y.now u.now v.now row)))
         out.old }
     ensures value { row % 2 ≡ 0 → result ≡ in_both (row_filtered_of stride row left n) u.now v.now }
 {
     let at = row * stride + left;
-    even_head(out, y, u, v, stride, row, left, n, rv, gu, gv, bu);
+    even_head(out, y, u, v, stride, row, left, n);
     let mut filtered_u = 0;
     let mut filtered_v = 0;
-    let mut col = left % 2;
-    while col < n {
-        let m = lent::least(n - col, 64);
+    for col in (left % 2..n).step_by(64) {
+        let m = (n - col).min(64);
         let here = at + col;
         let filtered = even_part(
             &mut out[4 * col..4 * (col + m)],
@@ -253,14 +204,9 @@ fn even_row(
             here,
             here + stride,
             m,
-            rv,
-            gu,
-            gv,
-            bu,
         );
         filtered_u += filtered.u;
         filtered_v += filtered.v;
-        col += m;
     }
     Filtered {
         u: filtered_u,
@@ -279,14 +225,9 @@ pub fn put_row(
     row: usize,
     left: usize,
     n: usize,
-    rv: &colour::Table,
-    gu: &colour::Table,
-    gv: &colour::Table,
-    bu: &colour::Table,
 ) -> Filtered
     requires pixel_rows_fit { PixelRowsFit (length out.old) (length y.now) (length u.now) (length v.now) stride rows left row n 1 }
     requires out_len { length out.old ≡ 4 * n }
-    requires tables { Tables rv.now gu.now gv.now bu.now }
     ensures out_after { out.new ≡ paint every
         (bytes (row_from left (pixel_at stride y.now u.now v.now row)))
         out.old }
@@ -295,9 +236,9 @@ pub fn put_row(
     if row % 2 == 0 {
         // No even row is past rows - 2. Said in the code too: then the compiler's own test that the output overlaps no plane, which it makes
         // once for all rows, does not count a row below the last one.
-        let even = lent::least(row, rows - 2);
-        return even_row(out, y, u, v, stride, even, left, n, rv, gu, gv, bu);
+        let even = row.min(rows - 2);
+        return even_row(out, y, u, v, stride, even, left, n);
     }
-    odd_row(out, y, u, v, stride, row, left, n, rv, gu, gv, bu);
+    odd_row(out, y, u, v, stride, row, left, n);
     Filtered { u: 0, v: 0 }
 }

@@ -4,7 +4,6 @@
 // the rule that makes a pixel (specs/Rules.antt).
 ghost use Rattle.std.specs.Prelude.{◌≡◌, ◌+◌, ◌-◌, ◌*◌, ◌/◌, ◌≤◌, length, get_or};
 ghost use Rattle.colour.specs.Colour.{reverse_of};
-ghost use Rattle.colour.specs.Products.{Tables};
 ghost use Rattle.lent.specs.Paint.{paint, painted, every, whole, within};
 ghost use Rattle.lent.specs.Pixels.{bytes};
 ghost use Rattle.to_rgba_rows.specs.Rules.{view_pixel_at, shades_from, half_of};
@@ -27,13 +26,11 @@ fn pair_shades(
         (bytes (shades_from half_of y.now at r.now g.now b.now)) out.old }
 {
     let pairs = m / 2;
-    let mut i = 0;
-    while i < pairs {
+    for i in 0..pairs {
         let j = 2 * i;
         let w = lent::words::two(y, at + j);
         lent::put_pixel(out, j, colour::shade((w % 256) as u8, r[i], g[i], b[i]));
         lent::put_pixel(out, j + 1, colour::shade((w / 256) as u8, r[i], g[i], b[i]));
-        i += 1;
     }
     let end = 2 * pairs;
     if end < m {
@@ -65,8 +62,7 @@ fn shade_lines(
         (λ l. bytes (λ i. shades_from half_of y.now (at + l * luma + k) r.now g.now b.now (i - k)))
         out.old }
 {
-    let mut l = 0;
-    while l < lines {
+    for l in 0..lines {
         let start = l * (4 * n) + 4 * k;
         pair_shades(
             &mut out[start..start + 4 * m],
@@ -77,7 +73,6 @@ fn shade_lines(
             b,
             m,
         );
-        l += 1;
     }
 }
 
@@ -94,13 +89,8 @@ fn view_part(
     k: usize,
     m: usize,
     lines: usize,
-    rv: &colour::Table,
-    gu: &colour::Table,
-    gv: &colour::Table,
-    bu: &colour::Table,
 )
-    requires view_part_fits { ViewPartFits (length out.old) (length y.now) (length u.now) (length v.now) luma at c n k m lines }
-    requires tables { Tables rv.now gu.now gv.now bu.now }
+    requires { ViewPartFits (length out.old) (length y.now) (length u.now) (length v.now) luma at c n k m lines }
     ensures { out.new ≡ painted (4 * n) lines (λ l. within (4 * k) (4 * (k + m)))
         (λ l. bytes (λ i. reverse_of (get_or y.now (at + l * luma + i) 0)
         (get_or u.now (c + (i - k) / 2) 0) (get_or v.now (c + (i - k) / 2) 0))) out.old }
@@ -108,7 +98,7 @@ fn view_part(
     let mut r = [0i16; 64];
     let mut g = [0i16; 64];
     let mut b = [0i16; 64];
-    crate::shares(&mut r, &mut g, &mut b, u, v, c, (m + 1) / 2, rv, gu, gv, bu);
+    crate::shares(&mut r, &mut g, &mut b, u, v, c, (m + 1) / 2);
     shade_lines(out, y, luma, at, n, k, m, lines, &r, &g, &b);
 }
 
@@ -123,39 +113,16 @@ pub fn view_lines(
     row: usize,
     n: usize,
     lines: usize,
-    rv: &colour::Table,
-    gu: &colour::Table,
-    gv: &colour::Table,
-    bu: &colour::Table,
 )
-    requires view_lines_fit { ViewLinesFit (length out.old) (length y.now) (length u.now) (length v.now) luma chroma row n lines }
-    requires tables { Tables rv.now gu.now gv.now bu.now }
+    requires { ViewLinesFit (length out.old) (length y.now) (length u.now) (length v.now) luma chroma row n lines }
     ensures { out.new ≡ painted (4 * n) lines whole
         (λ l. bytes (view_pixel_at reverse_of luma chroma y.now u.now v.now (row + l)))
         out.old }
 {
     let at = row * luma;
     let half = row / 2 * chroma;
-    let mut k = 0;
-    while k < n {
-        let m = lent::least(n - k, 64);
-        view_part(
-            out,
-            y,
-            u,
-            v,
-            luma,
-            at,
-            half + k / 2,
-            n,
-            k,
-            m,
-            lines,
-            rv,
-            gu,
-            gv,
-            bu,
-        );
-        k += m;
+    for k in (0..n).step_by(64) {
+        let m = (n - k).min(64);
+        view_part(out, y, u, v, luma, at, half + k / 2, n, k, m, lines);
     }
 }

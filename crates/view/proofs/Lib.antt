@@ -6,3 +6,4 @@ pub mod Unique
 pub mod RowLaws
 pub mod RowsAlike
 pub mod RowsUnique
+pub mod Over

@@ -16,8 +16,7 @@ use Rattle.lent.specs.Outcome.{Outcome, OwnPart}
 use Rattle.lent.specs.Samples.{sample}
 use Rattle.lent.proofs.Bools.{split, cond-true, cond-false}
 use Rattle.view.specs.declared.Plane.{Plane}
-use Rattle.view.specs.declared.RowStart.{RowStart}
-use Rattle.view.specs.declared.RowStart.TheVariants.{At}
+use Rattle.std.specs.Prelude.{Option, Some}
 use Rattle.view.specs.declared.rows.Row.{Row}
 use Rattle.view.specs.View.{PlaneFits}
 use Rattle.view.specs.Starts.{Values, a_row, no_row, values_of, bytes_in, row_start_of}
@@ -43,7 +42,7 @@ module _ (n : ℕ) (p : Plane) (r : ℕ) where
       (split 0 n)
 
 -- a row that was found lies in the plane, and so does its whole stride
-pub found_fits : (n : ℕ) (p : Plane) (len r : ℕ) {s : RowStart} {start : ℕ} → (n ≡ 0 → PlaneFits p len) → values_of s ≡ find_row_of n p r → s ≡ At start → (start + p.stride ≤ len) × (p.width ≤ p.stride)
+pub found_fits : (n : ℕ) (p : Plane) (len r : ℕ) {s : Option ℕ} {start : ℕ} → (n ≡ 0 → PlaneFits p len) → values_of s ≡ find_row_of n p r → s ≡ Some start → (start + p.stride ≤ len) × (p.width ≤ p.stride)
 found_fits n p len r {s} {start} f says e = ⊎_elim
     (λ g. let t = row_start_at p.stride p.height r (says ∙ find_row_accepted n p r g.0) e in
     let h = row_fits p len r (f g.0) g.1 in

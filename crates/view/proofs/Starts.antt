@@ -11,8 +11,7 @@ use borrow.Author.Tests.{lt-ltb, le-ltb}
 use Rattle.lent.proofs.Bools.{split, cond-true, cond-false}
 use Rattle.lent.proofs.Cells.{row_in}
 use Rattle.view.specs.declared.Plane.{Plane}
-use Rattle.view.specs.declared.RowStart.{RowStart}
-use Rattle.view.specs.declared.RowStart.TheVariants.{At, Absent}
+use Rattle.std.specs.Prelude.{Option, Some, None}
 use Rattle.view.specs.View.{PlaneFits}
 use Rattle.view.specs.Starts.{Values, a_row, no_row, values_of, row_start_of}
 
@@ -21,14 +20,14 @@ pub never : {start : ℕ} → a_row start ≡ no_row → ⊥
 never e = true≢false (ap (λ (v : Values). v.present) e)
 
 -- a start is known by its values, and so a call of `row_start` ends in one way
-pub values_unique : (s t : RowStart) → values_of s ≡ values_of t → s ≡ t
-values_unique (At a) (At b) e = λ i. At (e i).start
-values_unique (At a) Absent e = absurd (never e)
-values_unique Absent (At b) e = absurd (never (sym e))
-values_unique Absent Absent e = refl
+pub values_unique : (s t : Option ℕ) → values_of s ≡ values_of t → s ≡ t
+values_unique (Some a) (Some b) e = λ i. Some (e i).start
+values_unique (Some a) None e = absurd (never e)
+values_unique None (Some b) e = absurd (never (sym e))
+values_unique None None e = refl
 
 module _ (stride rows r : ℕ) where
-  pub row_start_unique : (s t : RowStart) → values_of s ≡ row_start_of stride rows r → values_of t ≡ row_start_of stride rows r → s ≡ t
+  pub row_start_unique : (s t : Option ℕ) → values_of s ≡ row_start_of stride rows r → values_of t ≡ row_start_of stride rows r → s ≡ t
   row_start_unique s t x y = values_unique s t (x ∙ sym y)
 
   pub row_start_holds : r < rows → row_start_of stride rows r ≡ a_row (r * stride)
@@ -40,13 +39,13 @@ module _ (stride rows r : ℕ) where
   row_start_none h = cond-false (ltb r rows) _ _ (le-ltb r rows h)
 
 -- what is known after a call of `row_start`, in each case of its answer
-module _ (stride rows r : ℕ) {s : RowStart} (says : values_of s ≡ row_start_of stride rows r) where
-  pub row_start_at : {start : ℕ} → s ≡ At start → (r < rows) × (start ≡ r * stride)
+module _ (stride rows r : ℕ) {s : Option ℕ} (says : values_of s ≡ row_start_of stride rows r) where
+  pub row_start_at : {start : ℕ} → s ≡ Some start → (r < rows) × (start ≡ r * stride)
   row_start_at {start} e =
       let q : a_row start ≡ row_start_of stride rows r = sym (ap values_of e) ∙ says in
       ⊎_elim (λ h. (h, ap (λ (v : Values). v.start) (q ∙ row_start_holds stride rows r h))) (λ h. absurd (never (q ∙ row_start_none stride rows r h))) (split r rows)
 
-  pub row_start_absent : s ≡ Absent → rows ≤ r
+  pub row_start_absent : s ≡ None → rows ≤ r
   row_start_absent e =
       let q : no_row ≡ row_start_of stride rows r = sym (ap values_of e) ∙ says in
       ⊎_elim (λ h. absurd (never (sym (q ∙ row_start_holds stride rows r h)))) (λ h. h) (split r rows)

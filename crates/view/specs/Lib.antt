@@ -5,3 +5,4 @@ pub mod Starts
 pub mod Alike
 pub mod Rows
 pub mod SameRow
+pub mod Over

@@ -6,11 +6,15 @@
 #![tactic(auto)]
 
 pub mod rows; // its rows, as parts of the caller's planes
+pub mod frame; // a view with its planes
 
 ghost use Rattle.std.specs.Prelude.{◌≡◌, [], ◌*◌, ◌≤◌, length};
 ghost use Rattle.lent.specs.Outcome.{Outcome, answer_of};
+ghost use Rattle.lent.specs.Refused.{number_in};
 ghost use Rattle.view.specs.View.{luma_of, chroma_of, narrow, plane_short, view_number_of};
 ghost use Rattle.view.specs.Starts.{values_of, row_start_of};
+
+use lent::refused::Refusal;
 
 #[derive(Clone, Copy)]
 pub struct View {
@@ -26,13 +30,6 @@ pub struct Plane {
     pub stride: usize,
     pub width: usize,
     pub height: usize,
-}
-
-// Where a row starts, if there is one.
-#[derive(Clone, Copy)]
-pub enum RowStart {
-    At(usize),
-    Absent,
 }
 
 // The sizes of the luma plane.
@@ -82,38 +79,34 @@ fn plane_too_short(w: View, ny: usize, nu: usize, nv: usize) -> bool
     )
 }
 
-// 0, or the refusal of a view.
-pub fn view_number(w: View, y: &[u8], u: &[u8], v: &[u8]) -> u32
-    ensures { result ≡ view_number_of w (length y.now) (length u.now) (length v.now) }
+// Whether these planes are a view of these sizes, or why not.
+pub fn check(w: View, y: &[u8], u: &[u8], v: &[u8]) -> Result<(), Refusal>
+    ensures { number_in result ≡ view_number_of w (length y.now) (length u.now) (length v.now) }
 {
     if too_narrow(w) {
-        return 3;
+        return Err(Refusal::StrideNarrow);
     }
     if plane_too_short(w, y.len(), u.len(), v.len()) {
-        return 4;
+        return Err(Refusal::ViewShort);
     }
-    0
+    Ok(())
 }
 
-// Whether these planes are a view of these sizes (the Rust's Yuv420Frame::new). The count is always 0.
+// The same as an answer (the Rust's Yuv420Frame::new). The count is always 0.
 pub fn new(w: View, y: &[u8], u: &[u8], v: &[u8]) -> lent::Answer
     ensures { Outcome (answer_of
         (view_number_of w (length y.now) (length u.now) (length v.now)) 0) [] result [] }
 {
     lent::Answer {
-        number: view_number(w, y, u, v),
+        number: lent::refused::number(check(w, y, u, v)),
         count: 0,
     }
 }
 
-// Where row `row` starts. A plane of len bytes holds all rows, so that the product does not wrap.
-pub fn row_start(len: usize, stride: usize, rows: usize, row: usize) -> RowStart
+// Where row `row` starts, if there is one. A plane of len bytes holds all rows, so that the product does not wrap.
+pub fn row_start(len: usize, stride: usize, rows: usize, row: usize) -> Option<usize>
     requires { rows * stride ≤ len }
     ensures { values_of result ≡ row_start_of stride rows row }
 {
-    if row < rows {
-        RowStart::At(row * stride)
-    } else {
-        RowStart::Absent
-    }
+    if row < rows { Some(row * stride) } else { None }
 }

@@ -1,7 +1,7 @@
 -- A payload is read and written back by the calls: the number that is found before anything is written, the lists that go to the writer,
 -- and how the call ends.
 -- Assumes nothing.
-use Prim.Native.Nat.{ℕ, ◌*◌, ◌-◌, ◌≤◌, ◌<◌}
+use Prim.Native.Nat.{ℕ, ◌*◌, ◌≤◌, ◌<◌}
 use native.Mathlib.Omega.{arith}
 use mathlib.Core.Path.{◌≡◌, refl, sym, ap, transport, ◌∙◌}
 use mathlib.Core.Bool.{Bool, true, false, cond, not, ◌||◌}
@@ -185,9 +185,9 @@ module _ (s : List ℕ) (w : Which) (ls : List ℕ) {r : Answer} {after : List �
     list_fits = let e = ap length front in let f = length-append ns rest in let g = rects_many s w in let h = numbers_counted in omega arith
 
     -- its front, as the code lends it, is the list that the writer is given
-    pub list_front : take (r.count - 0) after ≡ ns
+    pub list_front : take r.count after ≡ ns
     list_front =
-        let e : r.count - 0 ≡ length ns = let g = rects_many s w in let h = numbers_counted in omega arith in
+        let e : r.count ≡ length ns = let g = rects_many s w in let h = numbers_counted in omega arith in
         (λ i. take (e i) (front i)) ∙ take-append_seam ns rest
 
 -- ---- how the call ends
@@ -236,7 +236,7 @@ module _ (s ls cs out : List ℕ) where
 
       -- from what the three calls answered: p and q for the copies, r for the writer
       module _ {p q r : Answer} {ls' cs' after : List ℕ} (l : CopyRectsOutcome s Luma ls p (ls' ∷ [])) (c : CopyRectsOutcome s Chroma cs q (cs' ∷ []))
-          (o : WriteAgain s (take (p.count - 0) ls') (take (q.count - 0) cs') out r (after ∷ [])) where
+          (o : WriteAgain s (take p.count ls') (take q.count cs') out r (after ∷ [])) where
         -- the writer was given what was read
         again : WriteOutcome (kind_of s) (given_in s Luma) (given_in s Chroma) out r (after ∷ [])
         again =

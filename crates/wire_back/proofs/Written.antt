@@ -1,6 +1,6 @@
 -- What is written is a payload of the format, and is read as what was given.
 -- Assumes nothing.
-use Prim.Native.Nat.{ℕ, zero, suc, ◌+◌, ◌/◌, ◌-◌, ◌^◌, ◌≤◌, ◌<◌}
+use Prim.Native.Nat.{ℕ, zero, suc, ◌+◌, ◌/◌, ◌^◌, ◌≤◌, ◌<◌}
 use native.Mathlib.Omega.{arith}
 use mathlib.Core.Path.{◌≡◌, refl, sym, ap, subst, ◌∙◌}
 use mathlib.Core.Bool.{false, true≢false, false≢true}
@@ -179,11 +179,10 @@ module _ (kind : ℕ) (l c : Given) (out : List ℕ) {w : Answer} {after : List 
     pub fits : w.count ≤ length after
     fits = count_fits kind l c out o zero_number
 
-    pub read_ends : {r : Avc444} → r ≡ read_of (take (w.count - 0) after) → WriteReadOutcome kind l c out r after
+    pub read_ends : {r : Avc444} → r ≡ read_of (take w.count after) → WriteReadOutcome kind l c out r after
     read_ends {r} e =
         let n = given_number_of kind l c (length out) in
-        let all : w.count - 0 ≡ w.count = omega arith in
-        let is : r ≡ read_of (payload_of kind l c) = e ∙ ap read_of (ap (λ (k : ℕ). take k after) all ∙ counted kind l c out o zero_number) in
+        let is : r ≡ read_of (payload_of kind l c) = e ∙ ap read_of (counted kind l c out o zero_number) in
         record {
           ends = record {
             answer = is ∙ sym (cond-true (eqb n 0) (read_of (payload_of kind l c)) (refused_with n) (eq-eqb n 0 zero_number));

@@ -3,42 +3,30 @@
 #![tactic(auto)]
 
 ghost use Rattle.std.specs.Prelude.{◌≡◌, [], ◌∷◌, ◌*◌, ◌^◌, ◌<◌};
-ghost use Rattle.wire_write.specs.Writing.{given};
+ghost use Rattle.lent.specs.Refused.{number_in};
+ghost use Rattle.wire_write.specs.Writing.{given_by};
 ghost use Rattle.wire_back.specs.Back.{WriteReadOutcome, sizes_at, WriteAgain, read_write_number_of, ReadWriteOutcome};
 
-use wire_read::parts::Which;
+use lent::Answer;
+use lent::refused::Refusal;
+use wire_read::parts::{Which, copy_rects, h264, pairs};
+use wire_write::StreamInput;
 use wire_write::number::StreamSizes;
 
 // The payload is written into out, and what was written is read. 0, 8, 7, 11 or 6: the writer's numbers, since what it writes is accepted.
 pub fn write_read(
     kind: u32,
-    luma_rects: &[u16],
-    luma_pairs: &[u8],
-    luma_data: &[u8],
-    chroma_rects: &[u16],
-    chroma_pairs: &[u8],
-    chroma_data: &[u8],
+    luma: StreamInput<'_>,
+    chroma: StreamInput<'_>,
     out: &mut [u8],
 ) -> wire_read::Avc444
-    ensures { WriteReadOutcome kind (given luma_rects.now luma_pairs.now luma_data.now)
-        (given chroma_rects.now chroma_pairs.now chroma_data.now)
-        out.old result out.new }
+    ensures { WriteReadOutcome kind (given_by luma.entry) (given_by chroma.entry) out.old result out.new }
 {
-    let written = wire_write::write(
-        kind,
-        luma_rects,
-        luma_pairs,
-        luma_data,
-        chroma_rects,
-        chroma_pairs,
-        chroma_data,
-        out,
-    );
+    let written = wire_write::write(kind, luma, chroma, out);
     if written.number != 0 {
         return wire_read::refused(written.number);
     }
-    let end = written.count;
-    wire_read::read(&out[0..end])
+    wire_read::read(&out[..written.count])
 }
 
 // How much a stream that was read gives to the writer.
@@ -53,45 +41,39 @@ fn sizes_at(x: wire_read::Stream) -> StreamSizes
     }
 }
 
-// The number of a call that reads the payload and writes it back, from the lengths of what it is lent.
-fn read_write_number(payload: &[u8], lumas: usize, chromas: usize, room: usize) -> u32
-    ensures { result ≡ read_write_number_of payload.now lumas chromas room }
+// Whether a call may read the payload and write it back, from the lengths of what it is lent.
+fn check(payload: &[u8], lumas: usize, chromas: usize, room: usize) -> Result<(), Refusal>
+    ensures { number_in result ≡ read_write_number_of payload.now lumas chromas room }
 {
-    let a = wire_read::read(payload);
-    if a.number != 0 {
-        return a.number;
-    }
+    let a = wire_read::accept(payload)?;
     let luma = a.luma;
     if lumas / 4 < luma.count {
-        return 6;
+        return Err(Refusal::OutputShort);
     }
     let chroma = a.chroma;
     if chromas / 4 < chroma.count {
-        return 6;
+        return Err(Refusal::OutputShort);
     }
-    wire_write::number::write_number(a.kind, sizes_at(luma), sizes_at(chroma), room)
+    wire_write::number::check(a.kind, sizes_at(luma), sizes_at(chroma), room)?;
+    Ok(())
 }
 
 // The payload is written again: its kind, the two lists for its rectangles, and its own pairs and H.264 bytes.
-fn write_again(
-    payload: &[u8],
-    luma_rects: &[u16],
-    chroma_rects: &[u16],
-    out: &mut [u8],
-) -> lent::Answer
+fn write_again(payload: &[u8], luma_rects: &[u16], chroma_rects: &[u16], out: &mut [u8]) -> Answer
     ensures { WriteAgain payload.now luma_rects.now chroma_rects.now out.old result (out.new ∷ []) }
 {
     let a = wire_read::read(payload);
-    wire_write::write(
-        a.kind,
-        luma_rects,
-        wire_read::parts::pairs(payload, Which::Luma),
-        wire_read::parts::h264(payload, Which::Luma),
-        chroma_rects,
-        wire_read::parts::pairs(payload, Which::Chroma),
-        wire_read::parts::h264(payload, Which::Chroma),
-        out,
-    )
+    let luma = StreamInput {
+        rects: luma_rects,
+        pairs: pairs(payload, Which::Luma),
+        data: h264(payload, Which::Luma),
+    };
+    let chroma = StreamInput {
+        rects: chroma_rects,
+        pairs: pairs(payload, Which::Chroma),
+        data: h264(payload, Which::Chroma),
+    };
+    wire_write::write(a.kind, luma, chroma, out)
 }
 
 // The payload is read, the rectangles of each stream are copied into its list, and what was read is written into out. The number is found
@@ -101,25 +83,19 @@ pub fn read_write(
     luma_rects: &mut [u16],
     chroma_rects: &mut [u16],
     out: &mut [u8],
-) -> lent::Answer
+) -> Answer
     ensures { ReadWriteOutcome payload.now luma_rects.old chroma_rects.old out.old
         result luma_rects.new chroma_rects.new out.new }
 {
-    let number = read_write_number(payload, luma_rects.len(), chroma_rects.len(), out.len());
-    if number != 0 {
-        return lent::Answer {
-            number: number,
-            count: 0,
-        };
+    if let Err(refusal) = check(payload, luma_rects.len(), chroma_rects.len(), out.len()) {
+        return Answer::refused(refusal);
     }
-    let luma = wire_read::parts::copy_rects(payload, Which::Luma, luma_rects);
-    let chroma = wire_read::parts::copy_rects(payload, Which::Chroma, chroma_rects);
-    let lumas = luma.count;
-    let chromas = chroma.count;
+    let luma = copy_rects(payload, Which::Luma, luma_rects);
+    let chroma = copy_rects(payload, Which::Chroma, chroma_rects);
     write_again(
         payload,
-        &luma_rects[0..lumas],
-        &chroma_rects[0..chromas],
+        &luma_rects[..luma.count],
+        &chroma_rects[..chroma.count],
         out,
     )
 }

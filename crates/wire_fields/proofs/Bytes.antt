@@ -3,24 +3,9 @@
 use Prim.Native.Nat.{ℕ, ◌+◌, ◌*◌, ◌/◌, ◌%◌, ◌^◌, ◌<◌}
 use native.Mathlib.Omega.{arith}
 use mathlib.Core.Path.{◌≡◌, refl, ap, ◌∙◌}
-use mathlib.Core.List.{List, [], ◌∷◌}
-use lib.ListN.{length, set}
+use mathlib.Core.List.{[], ◌∷◌}
+use lib.ListN.{length}
 use Rattle.wire_fields.specs.Fields.{u16_at, u32_at, u16_bytes, u32_bytes}
-
--- stores over all bytes leave nothing of them
-pub two_written : (l : List ℕ) (a b : ℕ) → length l ≡ 2 → set (set l 0 a) 1 b ≡ a ∷ b ∷ []
-two_written [] a b h = absurd (omega arith)
-two_written (x ∷ []) a b h = absurd (omega arith)
-two_written (x ∷ y ∷ []) a b h = refl
-two_written (x ∷ y ∷ z ∷ l) a b h = absurd (omega arith)
-
-pub four_written : (l : List ℕ) (a b c d : ℕ) → length l ≡ 4 → set (set (set (set l 0 a) 1 b) 2 c) 3 d ≡ a ∷ b ∷ c ∷ d ∷ []
-four_written [] a b c d h = absurd (omega arith)
-four_written (w ∷ []) a b c d h = absurd (omega arith)
-four_written (w ∷ x ∷ []) a b c d h = absurd (omega arith)
-four_written (w ∷ x ∷ y ∷ []) a b c d h = absurd (omega arith)
-four_written (w ∷ x ∷ y ∷ z ∷ []) a b c d h = refl
-four_written (w ∷ x ∷ y ∷ z ∷ v ∷ l) a b c d h = absurd (omega arith)
 
 pub u16_long : (n : ℕ) → length (u16_bytes n) ≡ 2
 unfolding u16_bytes

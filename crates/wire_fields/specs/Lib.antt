@@ -1,2 +1,3 @@
 -- The numbers of an AVC444 payload.
 pub mod Fields
+pub mod Kinds

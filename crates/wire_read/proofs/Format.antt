@@ -17,7 +17,7 @@ use Rattle.wire_read.specs.declared.Avc444.{Avc444}
 use Rattle.wire_read.specs.Reading.{kind_of, first_size_of, carries_luma, carries_chroma, follows, stream_in, no_stream, past_end, read_number_of, read_of}
 use Rattle.wire_read.specs.Format.{Parts, bytes_of, Sound, places_at, Payload}
 use Rattle.wire_read.specs.Format.Payload.{both, luma, chroma}
-use Rattle.wire_read.proofs.Reading.{Good, head_good, past_end_is, read_accepted, read_carried}
+use Rattle.wire_read.proofs.Reading.{Good, head_good, past_end_is, read_accepted, read_whole, read_carried}
 
 -- ---- the answer by kind
 
@@ -35,7 +35,7 @@ module _ (s : List ℕ) where
 
   -- in kind k, where no stream of that kind runs past its end
   read_at : Good s → (k : ℕ) → kind_of s ≡ k → past_at k ≡ false → read_of s ≡ answer_at k
-  read_at g k is p = sym (read_carried s (sym (head_good s g.four g.known g.room)) (ap past_at is ∙ p)) ∙ ap answer_at is
+  read_at g k is p = sym (read_carried s (read_whole s (sym (head_good s g.four g.known g.room)) (ap past_at is ∙ p))) ∙ ap answer_at is
 
   pub read_both : Good s → kind_of s ≡ 0 → past_end s 4 (4 + first_size_of s) ≡ false → past_end s (4 + first_size_of s) (length s) ≡ false
       → read_of s ≡ record { number = 0; kind = 0; luma = stream_in s 4 (4 + first_size_of s); chroma = stream_in s (4 + first_size_of s) (length s) }

@@ -16,13 +16,11 @@
 --   read_number_of s              the number of the call
 --   read_of s                    its answer: `carried_of` where the number is 0, else `refused_with`, all 0 but the number
 --   PartsInside x n             the parts of a stream lie in n bytes, each where the one before it ends
-use Rattle.std.specs.Prelude.{ℕ, ◌+◌, ◌*◌, ◌-◌, ◌≤◌, ◌≡◌, Bool, cond, not, ◌&&◌, ◌||◌, List, [], ◌∷◌, ◌++◌, ltb, eqb, length}
+use Rattle.std.specs.Prelude.{ℕ, ◌+◌, ◌*◌, ◌-◌, ◌≤◌, ◌≡◌, Bool, cond, not, ◌&&◌, ◌||◌, List, [], ◌∷◌, ◌++◌, ltb, eqb, length, Option, Some, None}
 use Rattle.lent.specs.Refusal.{refusal}
 use Rattle.wire_fields.specs.Fields.{u32_at, size_in, kind_in}
 use Rattle.wire_read.specs.declared.Stream.{Stream}
 use Rattle.wire_read.specs.declared.Avc444.{Avc444}
-use Rattle.wire_read.specs.declared.Found.{Found}
-use Rattle.wire_read.specs.declared.Found.TheVariants.{Whole, Past}
 
 abbrev pub kind_of : List ℕ → ℕ
 kind_of s = kind_in (u32_at s 0)
@@ -70,9 +68,9 @@ whole_stream x = record { number = 0; stream = x }
 abbrev pub past_stream : FoundValues
 past_stream = record { number = 10; stream = no_stream }
 
-abbrev pub found_of : Found → FoundValues
-found_of (Whole x) = whole_stream x
-found_of Past = past_stream
+abbrev pub found_of : Option Stream → FoundValues
+found_of (Some x) = whole_stream x
+found_of None = past_stream
 
 abbrev pub stream_at : List ℕ → ℕ → ℕ → FoundValues
 stream_at s a e = cond (past_end s a e) past_stream (whole_stream (stream_in s a e))

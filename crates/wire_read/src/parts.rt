@@ -11,6 +11,8 @@ ghost use Rattle.wire_read.specs.Reading.{read_number_of, PartsInside};
 ghost use Rattle.wire_read.specs.Parts.{places_of, here_in, parts_of, rectangle_at_of, pair_at_of, CopyRectsOutcome};
 
 use crate::Stream;
+use lent::Answer;
+use lent::refused::Refusal;
 
 // One of the two streams that a payload may carry.
 #[derive(Clone, Copy)]
@@ -20,8 +22,9 @@ pub enum Which {
 }
 
 // A rectangle of a stream: zeros where it is not present.
+// A flag beside numbers, and no Option: C is handed it as it is.
 #[repr(C)]
-#[derive(Clone, Copy)]
+#[derive(Clone, Copy, Default)]
 pub struct Rectangle {
     pub number: u32,
     pub present: bool,
@@ -32,8 +35,9 @@ pub struct Rectangle {
 }
 
 // A quantiser and quality pair of a stream: zeros where it is not present.
+// A flag beside values, and no Option: C is handed it as it is.
 #[repr(C)]
-#[derive(Clone, Copy)]
+#[derive(Clone, Copy, Default)]
 pub struct Pair {
     pub number: u32,
     pub present: bool,
@@ -43,7 +47,8 @@ pub struct Pair {
     pub quality: u8,
 }
 
-// The payload's number, and where the parts of one of its streams stand.
+// The payload's number, and where the parts of one of its streams stand. (No Result: in a refusal the places are wanted too, since a part is
+// empty there.)
 #[derive(Clone, Copy)]
 struct Here {
     number: u32,
@@ -51,11 +56,11 @@ struct Here {
 }
 
 // 0, or the refusal of the payload: the number that stands beside each part below.
+#[tactic(auto, using(crate::proofs::Exactly::answer_number))]
 pub fn number(payload: &[u8]) -> u32
     ensures { result ≡ read_number_of payload.now }
 {
-    let a = crate::read(payload);
-    a.number
+    crate::read(payload).number
 }
 
 // The payload is read once, and its parts lie inside it.
@@ -63,17 +68,13 @@ fn find(payload: &[u8], which: Which) -> Here
     ensures { (result ≡ here_in payload.now which) × PartsInside result.places (length payload.now) }
 {
     let a = crate::read(payload);
-    let luma = a.luma;
-    let chroma = a.chroma;
-    match which {
-        Which::Luma => Here {
-            number: a.number,
-            places: luma,
-        },
-        Which::Chroma => Here {
-            number: a.number,
-            places: chroma,
-        },
+    let places = match which {
+        Which::Luma => a.luma,
+        Which::Chroma => a.chroma,
+    };
+    Here {
+        number: a.number,
+        places,
     }
 }
 
@@ -82,8 +83,7 @@ fn cut<'a>(payload: &'a [u8], start: usize, n: usize) -> &'a [u8]
     requires { start + n ≤ length payload.now }
     ensures { OwnPart payload.entry result start (take n (drop start payload.now)) }
 {
-    let end = start + n;
-    &payload[start..end]
+    &payload[start..start + n]
 }
 
 // The rectangles of a stream, eight bytes each.
@@ -95,7 +95,7 @@ pub fn rects<'a>(payload: &'a [u8], which: Which) -> &'a [u8]
     cut(payload, x.rects, 8 * x.count)
 }
 
-// The pairs of a stream, two bytes each.
+// The pairs of a stream, two bytes each. Each part has a call of its own: what they share is `find` and `cut`.
 pub fn pairs<'a>(payload: &'a [u8], which: Which) -> &'a [u8]
     ensures { OwnPart payload.entry result (places_of payload.now which).pairs
         (parts_of payload.now which).pairs }
@@ -114,25 +114,20 @@ pub fn h264<'a>(payload: &'a [u8], which: Which) -> &'a [u8]
 }
 
 // Rectangle i of a stream.
+#[tactic(auto, unfolding(crate::specs::Parts::rectangle_at_of))]
 pub fn rectangle_at(payload: &[u8], which: Which, i: usize) -> Rectangle
     ensures { Outcome (rectangle_at_of payload.now which i) [] result [] }
 {
-    let here = find(payload, which);
-    let number = here.number;
-    let x = here.places;
-    if i >= x.count {
+    let Here { number, places } = find(payload, which);
+    if i >= places.count {
         return Rectangle {
-            number: number,
-            present: false,
-            left: 0,
-            top: 0,
-            right: 0,
-            bottom: 0,
+            number,
+            ..Rectangle::default()
         };
     }
-    let at = x.rects + 8 * i;
+    let at = places.rects + 8 * i;
     Rectangle {
-        number: number,
+        number,
         present: true,
         left: wire_fields::u16_at(payload, at),
         top: wire_fields::u16_at(payload, at + 2),
@@ -142,26 +137,21 @@ pub fn rectangle_at(payload: &[u8], which: Which, i: usize) -> Rectangle
 }
 
 // Pair i of a stream.
+#[tactic(auto, unfolding(crate::specs::Parts::pair_at_of))]
 pub fn pair_at(payload: &[u8], which: Which, i: usize) -> Pair
     ensures { Outcome (pair_at_of payload.now which i) [] result [] }
 {
-    let here = find(payload, which);
-    let number = here.number;
-    let x = here.places;
-    if i >= x.count {
+    let Here { number, places } = find(payload, which);
+    if i >= places.count {
         return Pair {
-            number: number,
-            present: false,
-            value: 0,
-            reserved: false,
-            progressive: false,
-            quality: 0,
+            number,
+            ..Pair::default()
         };
     }
-    let at = x.pairs + 2 * i;
+    let at = places.pairs + 2 * i;
     let q = wire_fields::quantiser_in(payload[at]);
     Pair {
-        number: number,
+        number,
         present: true,
         value: q.value,
         reserved: q.reserved,
@@ -175,35 +165,24 @@ fn put_numbers(s: &[u8], at: usize, out: &mut [u16], n: usize)
     requires { (at + 2 * n ≤ length s.now) × (n ≤ length out.old) }
     ensures { out.new ≡ paint (λ k. ltb k n) (λ k. u16_at s.now (at + 2 * k)) out.old }
 {
-    let mut i = 0;
-    while i < n {
+    for i in 0..n {
         out[i] = wire_fields::u16_at(s, at + 2 * i);
-        i += 1;
     }
 }
 
 // The rectangles of a stream as numbers in fours, as the apply calls take them. The count is the numbers written.
-pub fn copy_rects(payload: &[u8], which: Which, out: &mut [u16]) -> lent::Answer
+#[tactic(auto, unfolding(crate::specs::Parts::numbers_of, crate::specs::Parts::copy_number_of))]
+pub fn copy_rects(payload: &[u8], which: Which, out: &mut [u16]) -> Answer
     ensures { CopyRectsOutcome payload.now which out.old result (out.new ∷ []) }
 {
-    let here = find(payload, which);
-    if here.number != 0 {
-        return lent::Answer {
-            number: here.number,
-            count: 0,
-        };
+    let Here { number, places } = find(payload, which);
+    if number != 0 {
+        return Answer { number, count: 0 };
     }
-    let x = here.places;
-    if out.len() / 4 < x.count {
-        return lent::Answer {
-            number: 6,
-            count: 0,
-        };
+    if out.len() / 4 < places.count {
+        return Answer::refused(Refusal::OutputShort);
     }
-    let n = 4 * x.count;
-    put_numbers(payload, x.rects, out, n);
-    lent::Answer {
-        number: 0,
-        count: n,
-    }
+    let n = 4 * places.count;
+    put_numbers(payload, places.rects, out, n);
+    Answer::done(n)
 }

@@ -4,10 +4,9 @@ use Prim.Native.Nat.{ℕ, ◌-◌}
 use native.Mathlib.Omega.{arith}
 use mathlib.Core.Path.{◌≡◌, refl, sym, ap, ◌∙◌}
 use mathlib.Core.Bool.{Bool, true, false, cond}
-use mathlib.Core.List.{List, [], ◌∷◌, ◌++◌, append_assoc}
+use mathlib.Core.List.{List, [], ◌++◌, append_assoc}
 use borrow.Rule.Slice.PartMut.{put_mid, post_of}
-use lib.ListN.{length, take, drop, length-append, length-drop}
-use lib.Seq.{length-take-le}
+use lib.ListN.{length, drop, length-append}
 use Rattle.wire_write.proofs.Front.{fronted, part_next}
 use Rattle.wire_fields.specs.Fields.{u32_bytes, info_of}
 use Rattle.wire_fields.proofs.Bytes.{u32_long}
@@ -16,10 +15,6 @@ use Rattle.wire_read.specs.Format.{bytes_of}
 use Rattle.wire_write.proofs.Stream.{stream_long_lem}
 use Rattle.wire_write.specs.Number.{bytes_for, payload_bytes}
 use Rattle.wire_write.specs.Writing.{Given, sizes_given, parts_given, size_for, payload_of, Placed}
-
-pub empty : (l : List ℕ) → length l ≡ 0 → l ≡ []
-empty [] e = refl
-empty (x ∷ l) e = absurd (omega arith)
 
 -- a stream's bytes, where it is carried
 carried_long : (is : Bool) (g : Given) → length (cond {A = List ℕ} is (bytes_of (parts_given g)) []) ≡ cond is (bytes_for (sizes_given g)) 0
@@ -71,13 +66,6 @@ module _ (kind : ℕ) (l c : Given) where
         (λ i. put_mid 4 (middle - 4) (is i ++ drop 4 out) (f i))
         ∙ ap (λ (n : ℕ). put_mid 4 (middle - 4) (head ++ drop n out) luma) (sym d)
         ∙ part_next head luma out 4 (middle - 4) d (carried_long (carries_luma kind) l ∙ sym size_is)
-
-    -- what is lent for the chroma stream is as long as that
-    pub chroma_room : (now : List ℕ) → length now ≡ length out → length (take (end - middle) (drop middle now)) ≡ cond (carries_chroma kind) (bytes_for (sizes_given c)) 0
-    chroma_room now long =
-        let rest = length-drop middle now in
-        let size : end - middle ≡ cond (carries_chroma kind) (bytes_for (sizes_given c)) 0 = omega (arith, p) in
-        length-take-le (end - middle) (drop middle now) (omega (arith, p)) ∙ size
 
     pub payload_written : {x ls cs : List ℕ} → x ≡ u32_bytes (info_of kind (middle - 4)) → ls ≡ luma → cs ≡ chroma
         → put_mid middle (end - middle) (put_mid 4 (middle - 4) (x ++ post_of 0 4 out) ls) cs ≡ payload_of kind l c ++ drop end out

@@ -2,6 +2,7 @@
 -- write the payload of E1." "For kinds 1 and 2 the parts of the stream not carried are ignored. The count is the bytes written."
 --
 --   Given, given                what is lent for a stream: a rectangle list, its pairs, its H.264 bytes
+--   given_by x                  what is lent, as the code has it
 --   sizes_given g, parts_given g  their lengths, and the parts of the stream that is written of them
 --   size_for kind l              the size that the standard wants: the first stream's bytes in kinds 0 and 1, 0 in kind 2
 --   Placed kind l c m e n       a payload has room in n bytes, and each number of it where it goes; luma ends at m, chroma at e
@@ -15,6 +16,7 @@ use Rattle.wire_fields.specs.Fields.{u32_bytes, info_of}
 use Rattle.wire_read.specs.Reading.{carries_luma, carries_chroma}
 use Rattle.wire_read.specs.Format.{Parts, bytes_of}
 use Rattle.wire_write.specs.Stream.{parts_from}
+use Rattle.wire_write.specs.declared.StreamInput.{StreamInput}
 use Rattle.wire_write.specs.declared.number.StreamSizes.{StreamSizes}
 use Rattle.wire_write.specs.Number.{bytes_for, write_number_of}
 
@@ -25,6 +27,9 @@ pub record Given : Type 0 where
 
 abbrev pub given : List ℕ → List ℕ → List ℕ → Given
 given rs ps hs = record { rects = rs; pairs = ps; h264 = hs }
+
+abbrev pub given_by : StreamInput → Given
+given_by x = given x.rects.now x.pairs.now x.«data».now
 
 abbrev pub sizes_given : Given → StreamSizes
 sizes_given g = record { rects = length g.rects; pairs = length g.pairs; «data» = length g.h264 }

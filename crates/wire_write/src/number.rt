@@ -1,7 +1,12 @@
 // The number of a call that writes an AVC444 payload, from the lengths of what it is lent. No sum of lengths wraps: what is written is
 // taken from the room, part by part.
-ghost use Rattle.std.specs.Prelude.{◌≡◌, ◌&&◌, ◌+◌, ◌*◌, ◌^◌, ◌≤◌, ◌<◌};
+ghost use Rattle.std.specs.Prelude.{◌≡◌, ◌+◌, ◌*◌, ◌^◌, ◌≤◌, ◌<◌, IfOk};
+ghost use Rattle.lent.specs.Refused.{number_in};
+ghost use Rattle.wire_fields.specs.Kinds.{number_of};
 ghost use Rattle.wire_write.specs.Number.{bytes_for, uneven, count_large, stream_long, first_carried, lacks, lists_wrong, too_long, output_short, write_number_of};
+
+use lent::refused::Refusal;
+use wire_fields::kinds::Kind;
 
 // How much is lent for a stream: numbers of its rectangle list, bytes of its pairs, H.264 bytes.
 #[derive(Clone, Copy)]
@@ -11,139 +16,109 @@ pub struct StreamSizes {
     pub data: usize,
 }
 
-fn is_uneven(z: StreamSizes) -> bool
-    ensures { result ≡ uneven z }
-{
-    z.rects % 4 != 0 || z.pairs != 2 * (z.rects / 4)
-}
-
-fn is_count_large(z: StreamSizes) -> bool
-    ensures { result ≡ count_large z }
-{
-    z.rects / 4 > 0xffff_ffff
-}
-
-// The bytes of a stream that fits.
-pub fn bytes_for(z: StreamSizes) -> usize
-    requires { bytes_for z < 2 ^ 64 }
-    ensures { result ≡ bytes_for z }
-{
-    4 + 2 * z.rects + z.pairs + z.data
-}
-
-fn is_long(z: StreamSizes) -> bool
-    ensures { result ≡ stream_long z }
-{
-    if z.rects >= 0x4000_0000 {
-        return true;
+impl StreamSizes {
+    // The list is not in fours, or there is not one pair for each rectangle.
+    fn is_uneven(self) -> bool
+        ensures { result ≡ uneven self }
+    {
+        self.rects % 4 != 0 || self.pairs != 2 * (self.rects / 4)
     }
-    if z.pairs >= 0x4000_0000 {
-        return true;
-    }
-    if z.data >= 0x4000_0000 {
-        return true;
-    }
-    bytes_for(z) >= 0x4000_0000
-}
 
-// Whether a room is less than the stream's bytes.
-fn is_lacking(room: usize, z: StreamSizes) -> bool
-    ensures { result ≡ lacks room z }
-{
-    if room < 4 {
-        return true;
+    // The rectangle count does not fit in 32 bits.
+    fn is_count_large(self) -> bool
+        ensures { result ≡ count_large self }
+    {
+        self.rects / 4 > 0xffff_ffff
     }
-    let a = room - 4;
-    if a / 2 < z.rects {
-        return true;
-    }
-    let b = a - 2 * z.rects;
-    if b < z.pairs {
-        return true;
-    }
-    b - z.pairs < z.data
-}
 
-fn is_carried_uneven(is: bool, z: StreamSizes) -> bool
-    ensures { result ≡ (is && uneven z) }
-{
-    if is { is_uneven(z) } else { false }
-}
+    // The bytes of a stream that fits.
+    pub fn bytes(self) -> usize
+        requires { bytes_for self < 2 ^ 64 }
+        ensures { result ≡ bytes_for self }
+    {
+        4 + 2 * self.rects + self.pairs + self.data
+    }
 
-fn is_carried_count_large(is: bool, z: StreamSizes) -> bool
-    ensures { result ≡ (is && count_large z) }
-{
-    if is { is_count_large(z) } else { false }
+    // The stream is 2^30 bytes or longer. Where each part is shorter, their sum does not wrap.
+    fn is_long(self) -> bool
+        ensures { result ≡ stream_long self }
+    {
+        self.rects >= 0x4000_0000
+            || self.pairs >= 0x4000_0000
+            || self.data >= 0x4000_0000
+            || self.bytes() >= 0x4000_0000
+    }
+
+    // The stream has more bytes than a room.
+    fn exceeds(self, room: usize) -> bool
+        ensures { result ≡ lacks room self }
+    {
+        if room < 4 {
+            return true;
+        }
+        let a = room - 4;
+        if a / 2 < self.rects {
+            return true;
+        }
+        let b = a - 2 * self.rects;
+        b < self.pairs || b - self.pairs < self.data
+    }
 }
 
 // A list of a stream that is carried is not in fours, or lacks a pair.
-fn are_lists_wrong(kind: u32, l: StreamSizes, c: StreamSizes) -> bool
-    ensures { result ≡ lists_wrong kind l c }
+fn are_lists_wrong(kind: Kind, l: StreamSizes, c: StreamSizes) -> bool
+    ensures { result ≡ lists_wrong (number_of kind) l c }
 {
-    if is_carried_uneven(kind != 2, l) {
-        return true;
-    }
-    is_carried_uneven(kind != 1, c)
+    kind.has_luma() && l.is_uneven() || kind.has_chroma() && c.is_uneven()
 }
 
-fn first(kind: u32, l: StreamSizes, c: StreamSizes) -> StreamSizes
-    ensures { result ≡ first_carried kind l c }
+fn first(kind: Kind, l: StreamSizes, c: StreamSizes) -> StreamSizes
+    ensures { result ≡ first_carried (number_of kind) l c }
 {
-    if kind != 2 {
-        return l;
-    }
-    c
+    if kind.has_luma() { l } else { c }
 }
 
 // The first stream carried is too long for the size field, or a count for its own.
-fn is_too_long(kind: u32, l: StreamSizes, c: StreamSizes) -> bool
-    ensures { result ≡ too_long kind l c }
+fn is_too_long(kind: Kind, l: StreamSizes, c: StreamSizes) -> bool
+    ensures { result ≡ too_long (number_of kind) l c }
 {
-    if is_long(first(kind, l, c)) {
-        return true;
-    }
-    if is_carried_count_large(kind != 2, l) {
-        return true;
-    }
-    is_carried_count_large(kind != 1, c)
+    first(kind, l, c).is_long()
+        || kind.has_luma() && l.is_count_large()
+        || kind.has_chroma() && c.is_count_large()
 }
 
 // The output is shorter than the payload.
-fn is_output_short(kind: u32, l: StreamSizes, c: StreamSizes, n: usize) -> bool
-    requires { kind ≤ 2 }
-    ensures { result ≡ output_short kind l c n }
+fn is_output_short(kind: Kind, l: StreamSizes, c: StreamSizes, n: usize) -> bool
+    ensures { result ≡ output_short (number_of kind) l c n }
 {
     if n < 4 {
         return true;
     }
     let room = n - 4;
-    if kind == 2 {
-        return is_lacking(room, c);
+    match kind {
+        Kind::Both => l.exceeds(room) || c.exceeds(room - l.bytes()),
+        Kind::Luma => l.exceeds(room),
+        Kind::Chroma => c.exceeds(room),
     }
-    if is_lacking(room, l) {
-        return true;
-    }
-    if kind == 1 {
-        return false;
-    }
-    is_lacking(room - bytes_for(l), c)
 }
 
-// 0, or the refusal of a call that is lent n bytes for the payload.
-pub fn write_number(kind: u32, l: StreamSizes, c: StreamSizes, n: usize) -> u32
-    ensures { result ≡ write_number_of kind l c n }
+// The kind of a payload, where a call that is lent n bytes for it is not refused.
+#[tactic(auto, unfolding(crate::specs::Number::write_number_of))]
+pub fn check(kind: u32, l: StreamSizes, c: StreamSizes, n: usize) -> Result<Kind, Refusal>
+    ensures number { number_in result ≡ write_number_of kind l c n }
+    ensures kind { IfOk result (λ k. number_of k ≡ kind) }
 {
-    if kind > 2 {
-        return 8;
-    }
+    let Ok(kind) = Kind::try_from(kind) else {
+        return Err(Refusal::KindUnknown);
+    };
     if are_lists_wrong(kind, l, c) {
-        return 7;
+        return Err(Refusal::ListUneven);
     }
     if is_too_long(kind, l, c) {
-        return 11;
+        return Err(Refusal::PayloadLong);
     }
     if is_output_short(kind, l, c, n) {
-        return 6;
+        return Err(Refusal::OutputShort);
     }
-    0
+    Ok(kind)
 }

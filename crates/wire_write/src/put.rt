@@ -5,17 +5,19 @@
 ghost use Rattle.std.specs.Prelude.{◌≡◌, ◌*◌, ◌/◌, ◌^◌, ◌<◌, ◌≤◌, ltb, length, get_or, take};
 ghost use Rattle.lent.specs.Paint.{paint};
 ghost use Rattle.wire_read.specs.Format.{bytes_of};
-ghost use Rattle.wire_write.specs.Stream.{number_bytes, stream_length, parts_from};
+ghost use Rattle.wire_write.specs.Stream.{number_bytes};
+ghost use Rattle.wire_write.specs.Number.{bytes_for};
+ghost use Rattle.wire_write.specs.Writing.{given_by, sizes_given, parts_given};
+
+use crate::StreamInput;
 
 // The front of t becomes the numbers.
 fn numbers_in(t: &mut [u16; 2048], numbers: &[u16])
     requires { (length t.old ≡ 2048) × (length numbers.now ≤ 2048) }
     ensures { t.new ≡ paint (λ k. ltb k (length numbers.now)) (λ k. get_or numbers.now k 0) t.old }
 {
-    let mut i = 0;
-    while i < numbers.len() {
+    for i in 0..numbers.len() {
         t[i] = numbers[i];
-        i += 1;
     }
 }
 
@@ -24,10 +26,8 @@ fn numbers_out(dst: &mut [u8], t: &[u16; 2048], n: usize)
     requires { (length t.now ≡ 2048) × (n ≤ 2048) × (length dst.old ≡ 2 * n) }
     ensures { dst.new ≡ number_bytes (take n t.now) }
 {
-    let mut i = 0;
-    while i < n {
+    for i in 0..n {
         wire_fields::put_u16(&mut dst[2 * i..2 * i + 2], t[i]);
-        i += 1;
     }
 }
 
@@ -48,26 +48,23 @@ fn put_numbers(dst: &mut [u8], numbers: &[u16])
     ensures { dst.new ≡ number_bytes numbers.now }
 {
     let n = numbers.len();
-    let mut k = 0;
-    while k < n {
-        let m = lent::least(2048, n - k);
+    for k in (0..n).step_by(2048) {
+        let m = usize::min(2048, n - k);
         numbers_part(&mut dst[2 * k..2 * (k + m)], &numbers[k..k + m]);
-        k += m;
     }
 }
 
 // dst becomes the stream.
-pub fn put_stream(dst: &mut [u8], rects: &[u16], pairs: &[u8], data: &[u8])
-    requires { (length dst.old ≡ stream_length (length rects.now) (length pairs.now) (length «data».now))
-        × (length rects.now / 4 < 2 ^ 32) }
-    ensures { dst.new ≡ bytes_of (parts_from rects.now pairs.now «data».now) }
+pub fn put_stream(dst: &mut [u8], stream: StreamInput<'_>)
+    requires { (length dst.old ≡ bytes_for (sizes_given (given_by stream))) × (length stream.rects.now / 4 < 2 ^ 32) }
+    ensures { dst.new ≡ bytes_of (parts_given (given_by stream.entry)) }
 {
-    let count = (rects.len() / 4) as u32;
-    let first = 4 + 2 * rects.len();
-    let second = first + pairs.len();
-    let end = second + data.len();
+    let count = (stream.rects.len() / 4) as u32;
+    let first = 4 + 2 * stream.rects.len();
+    let second = first + stream.pairs.len();
+    let end = second + stream.data.len();
     wire_fields::put_u32(&mut dst[0..4], count);
-    put_numbers(&mut dst[4..first], rects);
-    lent::long::copy(&mut dst[first..second], pairs);
-    lent::long::copy(&mut dst[second..end], data);
+    put_numbers(&mut dst[4..first], stream.rects);
+    lent::long::copy(&mut dst[first..second], stream.pairs);
+    lent::long::copy(&mut dst[second..end], stream.data);
 }

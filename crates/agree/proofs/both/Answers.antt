@@ -4,40 +4,47 @@
 use Prim.Native.Nat.{ℕ}
 use mathlib.Core.Path.{◌≡◌, sym, ◌∙◌}
 use mathlib.Core.List.{List}
-use Rattle.split.specs.Split.{Planes, planes}
+use lib.ListN.{length}
+use Rattle.lent.specs.Refused.{number_in}
+use Rattle.lent.proofs.Answered.{accepted, refused_as, never_0}
+use Rattle.split.specs.Split.{Planes, planes, split_number_of}
+use Rattle.agree_law.specs.Through.{first_of, earlier_number_of}
 use Rattle.agree_law.specs.Both.{both_number_of}
 use Rattle.agree_law.proofs.Number.{both_plainly}
 use Rattle.agree_law.proofs.Ends.{both_refused, both_done}
-use Rattle.agree.proofs.both.Goals.{After-both_number-number}
+use Rattle.agree.proofs.both.Goals.{After-check-checked}
 use Rattle.agree.proofs.both.Goals as goal
 
-abbrev from : After-both_number-number → Planes
+abbrev from : After-check-checked → Planes
 from c = planes c.args.y.now c.args.u.now c.args.v.now
 
-abbrev main : After-both_number-number → Planes
+abbrev main : After-check-checked → Planes
 main c = planes c.args.main_y.now c.args.main_u.now c.args.main_v.now
 
-abbrev auxiliary : After-both_number-number → Planes
+abbrev auxiliary : After-check-checked → Planes
 auxiliary c = planes c.args.auxiliary_y.now c.args.auxiliary_u.now c.args.auxiliary_v.now
 
-abbrev one : After-both_number-number → Planes
+abbrev one : After-check-checked → Planes
 one c = planes c.args.first_y.now c.args.first_u.now c.args.first_v.now
 
-abbrev other : After-both_number-number → Planes
+abbrev other : After-check-checked → Planes
 other c = planes c.args.second_y.now c.args.second_u.now c.args.second_v.now
 
-abbrev one_map : After-both_number-number → List ℕ
+abbrev one_map : After-check-checked → List ℕ
 one_map c = c.args.first_map.now
 
-abbrev other-map : After-both_number-number → List ℕ
+abbrev other-map : After-check-checked → List ℕ
 other-map c = c.args.second_map.now
 
-numbered : (c : After-both_number-number) → c.both_number-number.result ≡ both_number_of c.args.one c.args.other c.args.size c.args.rects.now (from c) (main c) (auxiliary c) (one c) (one_map c) (other c) (other-map c)
+numbered : (c : After-check-checked) → number_in c.check-checked.result ≡ both_number_of c.args.one c.args.other c.args.size c.args.rects.now (from c) (main c) (auxiliary c) (one c) (one_map c) (other c) (other-map c)
 numbered c =
-    c.both_number-number.ensures ∙ sym (both_plainly c.args.one c.args.other c.args.size c.args.rects.now (from c) (main c) (auxiliary c) (one c) (one_map c) (other c) (other-map c))
+    c.check-checked.ensures
+    ∙ (λ i. first_of (first_of (split_number_of c.args.one c.args.size (c.of-from.ensures i) (c.of-main.ensures i) (c.of-auxiliary.ensures i)) (earlier_number_of c.args.size (c.of-first.ensures i) (length (one_map c)) (length c.args.rects.now)))
+    (first_of (split_number_of c.args.other c.args.size (c.of-from.ensures i) (c.of-main.ensures i) (c.of-auxiliary.ensures i)) (earlier_number_of c.args.size (c.of-second.ensures i) (length (other-map c)) (length c.args.rects.now))))
+    ∙ sym (both_plainly c.args.one c.args.other c.args.size c.args.rects.now (from c) (main c) (auxiliary c) (one c) (one_map c) (other c) (other-map c))
 
-pub returns-then-number-ne0 : goal.returns-then-number-ne0
-returns-then-number-ne0 c = both_refused c.args.one c.args.other c.args.size c.args.rects.now (from (goal.at.returns-then-number-ne0 c).After-both_number-number) (main (goal.at.returns-then-number-ne0 c).After-both_number-number) (auxiliary (goal.at.returns-then-number-ne0 c).After-both_number-number) (one (goal.at.returns-then-number-ne0 c).After-both_number-number) (one_map (goal.at.returns-then-number-ne0 c).After-both_number-number) (other (goal.at.returns-then-number-ne0 c).After-both_number-number) (other-map (goal.at.returns-then-number-ne0 c).After-both_number-number) (numbered (goal.at.returns-then-number-ne0 c).After-both_number-number) c.if-number-ne0.true
+pub returns-in-Err : goal.returns-in-Err
+returns-in-Err c = rw c.refused.ensures (both_refused c.args.one c.args.other c.args.size c.args.rects.now (from (goal.at.returns-in-Err c).After-check-checked) (main (goal.at.returns-in-Err c).After-check-checked) (auxiliary (goal.at.returns-in-Err c).After-check-checked) (one (goal.at.returns-in-Err c).After-check-checked) (one_map (goal.at.returns-in-Err c).After-check-checked) (other (goal.at.returns-in-Err c).After-check-checked) (other-map (goal.at.returns-in-Err c).After-check-checked) (refused_as (numbered (goal.at.returns-in-Err c).After-check-checked) c.in-Err.is) (never_0 _))
 
 pub shape_of-main_y : goal.shape_of-main_y
 shape_of-main_y c = c.through-2.auto.main_y ∙ c.through.auto.main_y
@@ -83,5 +90,5 @@ shape_of-second_map c = c.through-2.auto.q_map
 
 pub returns : goal.returns
 returns c =
-    both_done c.args.one c.args.other c.args.size c.args.rects.now (from (goal.at.returns c).After-both_number-number) (main (goal.at.returns c).After-both_number-number) (auxiliary (goal.at.returns c).After-both_number-number) (one (goal.at.returns c).After-both_number-number) (one_map (goal.at.returns c).After-both_number-number) (other (goal.at.returns c).After-both_number-number) (other-map (goal.at.returns c).After-both_number-number) (sym (numbered (goal.at.returns c).After-both_number-number) ∙ c.if-number-ne0.false)
+    both_done c.args.one c.args.other c.args.size c.args.rects.now (from (goal.at.returns c).After-check-checked) (main (goal.at.returns c).After-check-checked) (auxiliary (goal.at.returns c).After-check-checked) (one (goal.at.returns c).After-check-checked) (one_map (goal.at.returns c).After-check-checked) (other (goal.at.returns c).After-check-checked) (other-map (goal.at.returns c).After-check-checked) (accepted (numbered (goal.at.returns c).After-check-checked) c.in_default.is)
     c.through.ensures c.through-2.ensures

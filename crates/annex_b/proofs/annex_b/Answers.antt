@@ -7,38 +7,35 @@ use Rattle.annex_b.specs.AnnexB.{count_of}
 use Rattle.annex_b.proofs.UnitLaws.{Found, found, found_none}
 use Rattle.annex_b.proofs.Made.{summed_more, summed_none}
 use Rattle.annex_b.proofs.Written.{put_more, put_none, put_all}
-use Rattle.annex_b.proofs.annex_b.Goals.{In-Whole}
+use Rattle.annex_b.proofs.annex_b.Goals.{In-Some}
 use Rattle.annex_b.proofs.annex_b.Goals as goal
 
 -- the unit that the step has found
-found_at : (c : In-Whole) → Found c.args.s.now c.loop-end.c.at c.in-Whole.start c.in-Whole.end c.in-Whole.next.at
-found_at c = found c.args.s.now c.loop-end.c.at c.step-step.ensures c.in-Whole.is
+found_at : (c : In-Some) → Found c.args.s.now c.loop-unit.c.at c.in-Some.unit.start c.in-Some.unit.end c.in-Some.unit.next.at
+found_at c = found c.args.s.now c.loop-unit.c.at c.step.ensures c.in-Some.is
 
-pub loop-end-init : goal.loop-end-init
+pub loop-unit-init : goal.loop-unit-init
 unfolding count_of
-loop-end-init c = rw c.new-c.ensures (refl, omega arith, refl)
+loop-unit-init c = rw c.new-c.ensures (refl, omega arith, refl)
 
-pub shape_of-out-in_default : goal.shape_of-out-in_default
-shape_of-out-in_default c = c.loop-end.invariant.0
-
-pub returns-in_default : goal.returns-in_default
-returns-in_default c =
+pub returns : goal.returns
+returns c =
     let a = c.args in
-    let none = found_none a.s.now c.loop-end.c.at c.step-step.ensures c.in_default.is in (
-      summed_none a.s.now c.loop-end.c.at none ∙ c.loop-end.invariant.1,
-      put_none a.s.now c.loop-end.out c.loop-end.c.at none ∙ c.loop-end.invariant.2 ∙ put_all a.s.now a.out.now (omega arith),
+    let none = found_none a.s.now c.loop-unit.c.at c.step.ensures c.in_default.is in (
+      summed_none a.s.now c.loop-unit.c.at none ∙ c.loop-unit.invariant.1,
+      put_none a.s.now c.loop-unit.out c.loop-unit.c.at none ∙ c.loop-unit.invariant.2 ∙ put_all a.s.now a.out.now (omega arith),
     )
 
 pub put_unit-requires : goal.put_unit-requires
 put_unit-requires c =
-    let f = found_at (goal.at.put_unit-requires c).In-Whole in
+    let f = found_at (goal.at.put_unit-requires c).In-Some in
     let n = summed_more f in
     (omega arith, omega arith, omega arith)
 
-pub loop-end-smaller : goal.loop-end-smaller
-loop-end-smaller c = let f = found_at (goal.at.loop-end-smaller c).In-Whole in omega arith
+pub loop-unit-smaller : goal.loop-unit-smaller
+loop-unit-smaller c = let f = found_at (goal.at.loop-unit-smaller c).In-Some in omega arith
 
-pub loop-end-preserved : goal.loop-end-preserved
-loop-end-preserved c =
-    let f = found_at (goal.at.loop-end-preserved c).In-Whole in
-    (c.put_unit.auto.out ∙ c.loop-end.invariant.0, summed_more f ∙ c.loop-end.invariant.1, put_more f c.loop-end.out c.put_unit.new.out c.put_unit.ensures ∙ c.loop-end.invariant.2)
+pub loop-unit-preserved : goal.loop-unit-preserved
+loop-unit-preserved c =
+    let f = found_at (goal.at.loop-unit-preserved c).In-Some in
+    (c.put_unit.auto.out ∙ c.loop-unit.invariant.0, summed_more f ∙ c.loop-unit.invariant.1, put_more f c.loop-unit.out c.put_unit.new.out c.put_unit.ensures ∙ c.loop-unit.invariant.2)

@@ -16,7 +16,7 @@ returns-then-short c =
     let a = c.args in
     let lt = ltb-true (length a.out.now) (count_of a.«data».now) (sym c.short.ensures ∙ c.if-short.true) in
     let e = (annex_6_exactly a.«data».now a.out.now).1 lt in
-    rw e (record { answer = refl; buffers = refl })
+    rw e (record { answer = c.refused.ensures; buffers = refl })
 
 -- past the refusal the output is long enough
 room : (c : Else-short) → let a = c.args in count_of a.«data».now ≤ length a.out.now
@@ -31,4 +31,4 @@ pub returns : goal.returns
 returns c =
     let a = c.args in
     let e = (annex_0_exactly a.«data».now a.out.now).1 (room (goal.at.returns c).Else-short) in
-    rw e (record { answer = ap (answer_of 0) c.annex_b-n.ensures.0; buffers = ap (λ (l : List ℕ). l ∷ []) c.annex_b-n.ensures.1 })
+    rw e (record { answer = c.done.ensures ∙ ap (answer_of 0) c.annex_b-n.ensures.0; buffers = ap (λ (l : List ℕ). l ∷ []) c.annex_b-n.ensures.1 })

@@ -1,7 +1,7 @@
 -- `apply_auxiliary::auxiliary_rects` meets its contract. The invariant: each plane is painted by what the first i rectangles take.
 -- Assumes nothing.
 use native.Mathlib.Omega.{arith}
-use Rattle.rects.proofs.Rects.{rects_none, rects_more, rects_all}
+use Rattle.rects.proofs.Rects.{rects_none, rects_more}
 use Rattle.apply_auxiliary.specs.Auxiliary.{auxiliary_rule}
 use Rattle.apply_auxiliary.proofs.auxiliary_rects.Goals as goal
 
@@ -13,10 +13,3 @@ loop-i-preserved c = (
   rects_more _ _ (auxiliary_rule _ _ _) _ _ _ c.loop-i.i _ c.loop-i.invariant.0 (omega arith) c.rect_at-rect.ensures c.auxiliary_rect.ensures.u,
   rects_more _ _ (auxiliary_rule _ _ _) _ _ _ c.loop-i.i _ c.loop-i.invariant.1 (omega arith) c.rect_at-rect.ensures c.auxiliary_rect.ensures.v,
 )
-
-pub returns : goal.returns
-returns c =
-    record {
-      u = rects_all _ _ (auxiliary_rule _ _ _) _ _ _ c.loop-i.i c.loop-i.invariant.0 (omega arith);
-      v = rects_all _ _ (auxiliary_rule _ _ _) _ _ _ c.loop-i.i c.loop-i.invariant.1 (omega arith);
-    }

@@ -13,4 +13,4 @@ pub loop-row-preserved : goal.loop-row-preserved
 loop-row-preserved c = (omega arith, λ xs before. box_rows_more _ _ _ _ _ xs c.loop-row.row (c.loop-row.invariant.1 xs before) c.loop-row-test.true c.chroma_row.ensures)
 
 pub returns : goal.returns
-returns c = box_rows_all _ _ _ _ _ _ c.loop-row.row (c.loop-row.invariant.1 _ (c.chroma_twos-row.ensures.lower_bound, c.chroma_twos-row.auto.plane, c.chroma_twos-row.ensures.plane_after)) c.loop-row-test.false
+returns c = box_rows_all _ _ _ _ _ _ c.loop-row.row (c.loop-row.invariant.1 _ (c.chroma_twos-next.ensures.lower_bound, c.chroma_twos-next.auto.plane, c.chroma_twos-next.ensures.plane_after)) c.loop-row-test.false

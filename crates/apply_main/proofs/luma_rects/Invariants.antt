@@ -1,4 +1,3 @@
-use Prim.Native.Nat.{◌-◌}
 use Rattle.lent.specs.Samples.{sample}
 use Rattle.picture.specs.Sizes.{stride_of, rows_of}
 use Rattle.apply_main.specs.Main.{main_luma}
@@ -7,6 +6,3 @@ use Rattle.apply_main.proofs.luma_rects.Given as goal
 
 abbrev pub invariant-loop-i : goal.invariant-loop-i
 invariant-loop-i l = RectsDone (stride_of l.size) (rows_of l.size) (main_luma l.size l.w) l.rects (sample l.vy l.w.luma_stride) l.initial.y l.count l.y l.i
-
-abbrev pub decreases-loop-i : goal.decreases-loop-i
-decreases-loop-i l = l.count - l.i

@@ -1,4 +1,3 @@
-use Prim.Native.Nat.{◌-◌}
 use Rattle.lent.specs.Samples.{sample}
 use Rattle.picture.specs.Sizes.{stride_of, rows_of}
 use Rattle.apply_main.proofs.RectRows.{BoxRows}
@@ -6,6 +5,3 @@ use Rattle.apply_main.proofs.luma_rows.Given as goal
 
 abbrev pub invariant-loop-row : goal.invariant-loop-row
 invariant-loop-row l = BoxRows (stride_of l.size) (rows_of l.size) l.area l.from.height (sample l.vy l.from.stride) l.initial.y l.y l.row
-
-abbrev pub decreases-loop-row : goal.decreases-loop-row
-decreases-loop-row l = l.area.bottom - l.row

@@ -13,8 +13,7 @@ returns-then-at-n c =
 
 pub overflow_add-result : goal.overflow_add-result
 overflow_add-result c =
-    let a = c.args in
-    omega (arith, wrong_in a.row.now _ c.filled_right_8-at.result c.filled_right_8-at.ensures.0 c.filled_scan.ensures)
+    omega (arith, wrong_in c.args.row.now _ c.filled_right_8-at.result c.filled_right_8-at.ensures.0 c.filled_scan.ensures)
 
 pub returns : goal.returns
 returns c =

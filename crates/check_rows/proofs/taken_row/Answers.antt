@@ -2,14 +2,13 @@
 -- Assumes nothing.
 use Prim.Native.Nat.{ℕ, ◌+◌, ◌*◌, ◌/◌, ◌<◌, ◌≤◌}
 use native.Mathlib.Omega.{arith}
-use mathlib.Core.Path.{◌≡◌, ap, ◌∙◌}
+use mathlib.Core.Path.{◌≡◌, ◌∙◌}
 use lib.ListN.{length, get_or}
-use Rattle.lent.proofs.ByPart.{part_long}
 use Rattle.split_rows.specs.Seen.{seen}
-use Rattle.split_rows.proofs.Rows.{row_of, row_long, row_sample, seen_inside, seen_past}
+use Rattle.split_rows.proofs.Rows.{row_of, row_sample, seen_inside, seen_past}
 use Rattle.check_rows.specs.Rows.{step_of, first_of}
-use Rattle.check_rows.proofs.Rows.{part_of, wrong_in, found_inside, found_none, found_past}
-use Rattle.check_rows.proofs.Samples.{first_below, taken_room, taken_inside, taken_past}
+use Rattle.check_rows.proofs.Rows.{wrong_in, found_inside, found_none, found_past}
+use Rattle.check_rows.proofs.Samples.{taken_room, taken_inside, taken_past}
 use Rattle.check_rows.proofs.taken_row.Goals.{After-step}
 use Rattle.check_rows.proofs.taken_row.Goals as goal
 
@@ -31,19 +30,6 @@ inside c j h =
     let low = taken_inside a.stride j a.taken c.requires.even (rw c.step.ensures at h) in
     row_sample a.plane.now a.stride a.line _ low ∙ seen_inside a.fill a.plane.now a.stride a.line _ low
 
-pub nonzero_div-most : goal.nonzero_div-most
-nonzero_div-most c = let a = c.args in omega (arith, first_below a.taken, c.step.ensures)
-
-pub slice_bounds-taken_first-end : goal.slice_bounds-taken_first-end
-slice_bounds-taken_first-end c = omega (arith, room (goal.at.slice_bounds-taken_first-end c).After-step)
-
-pub taken_first-found-requires : goal.taken_first-found-requires
-taken_first-found-requires c =
-    let a = c.args in
-    let most : ℕ = a.stride / c.step.result in
-    let long : length (part_of a.row.now 0 most) ≡ most = part_long a.row.now 0 most (omega arith) (room (goal.at.taken_first-found-requires c).After-step).0 ∙ omega arith in
-    omega (arith, row_long a.plane.now a.stride a.line c.requires.reach, ap (λ (k : ℕ). step_of a.taken * k) long, (room (goal.at.taken_first-found-requires c).After-step).1)
-
 pub returns-then-found-most : goal.returns-then-found-most
 returns-then-found-most c =
     let a = c.args in
@@ -57,12 +43,6 @@ returns-then-n-most c =
     found_none a.row.now (λ k. seen a.fill a.plane.now a.stride a.line (step_of a.taken * k + first_of a.taken)) (λ k. get_or (row_of a.plane.now a.stride a.line) (step_of a.taken * k + first_of a.taken) 0) (a.stride / c.step.result) (room (goal.at.returns-then-n-most c).After-step).0
     (inside (goal.at.returns-then-n-most c).After-step)
     c.taken_first-found.ensures c.if-found-most.false c.if-n-most.true
-
-pub slice_bounds-filled_first-count : goal.slice_bounds-filled_first-count
-slice_bounds-filled_first-count c = omega (arith, room (goal.at.slice_bounds-filled_first-count c).After-step)
-
-pub slice_bounds-filled_first-start : goal.slice_bounds-filled_first-start
-slice_bounds-filled_first-start c = omega (arith, room (goal.at.slice_bounds-filled_first-start c).After-step)
 
 pub overflow_add-result : goal.overflow_add-result
 overflow_add-result c =

@@ -5,8 +5,8 @@ use Rattle.colour.proofs.blue_share.Goals as goal
 
 pub share-requires : goal.share-requires
 unfolding blue_u
-share-requires c = let at = c.place.ensures in one_small blue_product blue_small c.requires at.0 at.1
+share-requires c = one_small blue_product blue_small c.blue_u.ensures c.ranges.u.fits
 
 pub returns : goal.returns
 unfolding blue_u blue_share_of
-returns c = let at = c.place.ensures in one_shared blue_product blue_small c.requires at.0 at.1 c.share.ensures
+returns c = one_shared blue_product blue_small c.blue_u.ensures c.ranges.u.fits c.share.ensures

@@ -6,20 +6,17 @@ use Rattle.colour.proofs.green_share.Goals as goal
 pub overflow_add-p : goal.overflow_add-p
 unfolding green_u green_v
 overflow_add-p c =
-    let a = c.place.ensures in
-    let b = c.place-2.ensures in
-    sum_fits green_u_product green_v_product green_u_small green_v_small green_small c.requires.0 c.requires.1 a.0 b.0 a.1 b.1
+    sum_fits green_u_product green_v_product green_u_small green_v_small green_small
+    c.green_u.ensures c.green_v.ensures c.ranges.u.fits c.ranges.v.fits
 
 pub share-requires : goal.share-requires
 unfolding green_u green_v
 share-requires c =
-    let a = c.place.ensures in
-    let b = c.place-2.ensures in
-    sum_small green_u_product green_v_product green_u_small green_v_small green_small c.requires.0 c.requires.1 a.0 b.0 a.1 b.1
+    sum_small green_u_product green_v_product green_u_small green_v_small green_small
+    c.green_u.ensures c.green_v.ensures c.ranges.u.fits c.ranges.v.fits
 
 pub returns : goal.returns
 unfolding green_u green_v green_share_of
 returns c =
-    let a = c.place.ensures in
-    let b = c.place-2.ensures in
-    sum_shared green_u_product green_v_product green_u_small green_v_small green_small c.requires.0 c.requires.1 a.0 b.0 a.1 b.1 c.share.ensures
+    sum_shared green_u_product green_v_product green_u_small green_v_small green_small
+    c.green_u.ensures c.green_v.ensures c.ranges.u.fits c.ranges.v.fits c.share.ensures

@@ -5,8 +5,8 @@ use Rattle.colour.proofs.red_share.Goals as goal
 
 pub share-requires : goal.share-requires
 unfolding red_v
-share-requires c = let at = c.place.ensures in one_small red_product red_small c.requires at.0 at.1
+share-requires c = one_small red_product red_small c.red_v.ensures c.ranges.v.fits
 
 pub returns : goal.returns
 unfolding red_v red_share_of
-returns c = let at = c.place.ensures in one_shared red_product red_small c.requires at.0 at.1 c.share.ensures
+returns c = one_shared red_product red_small c.red_v.ensures c.ranges.v.fits c.share.ensures

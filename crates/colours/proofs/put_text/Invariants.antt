@@ -1,11 +1,6 @@
-use mathlib.Core.Path.{◌≡◌}
-use Prim.Native.Nat.{◌-◌}
-use lib.ListN.{length}
+use Prim.Native.Nat.{◌*◌}
 use Rattle.colours.proofs.Text.{SoFar}
 use Rattle.colours.proofs.put_text.Given as goal
 
-abbrev pub invariant-loop-i : goal.invariant-loop-i
-invariant-loop-i l = (length l.out ≡ length l.initial.out) × SoFar l.rgb l.out l.at l.i
-
-abbrev pub decreases-loop-i : goal.decreases-loop-i
-decreases-loop-i l = length l.rgb - l.i
+abbrev pub invariant-loop-k : goal.invariant-loop-k
+invariant-loop-k l = SoFar l.rgb l.out l.at (3 * l.k)

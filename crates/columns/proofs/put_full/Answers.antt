@@ -38,6 +38,6 @@ returns c =
     let a = c.args in
     let odds = c.requires.odds_fit in
     let evens = c.requires.evens_fit in
-    ended a.from.now a.u.now a.v.now a.dst.now a.lead c.least-col.result odds evens c.least-col.ensures
-    (begun a.from.now a.u.now a.v.now a.dst.now a.lead c.least-col.result odds evens c.least-col.ensures c.pair.ensures)
+    ended a.from.now a.u.now a.v.now a.dst.now a.lead c.min-col.result odds evens c.min-col.ensures
+    (begun a.from.now a.u.now a.v.now a.dst.now a.lead c.min-col.result odds evens c.min-col.ensures c.pair.ensures)
     c.from_u.ensures

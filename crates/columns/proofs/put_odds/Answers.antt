@@ -3,25 +3,21 @@
 -- Assumes nothing.
 use Prim.Native.Nat.{ℕ, ◌+◌, ◌*◌, ◌/◌}
 use native.Mathlib.Omega.{arith}
-use mathlib.Core.Path.{◌≡◌, refl, ap, ◌∙◌}
+use mathlib.Core.Path.{◌≡◌, ap, ◌∙◌}
 use lib.ListN.{get_or}
 use Rattle.columns.specs.Turns.{odd}
 use Rattle.columns.proofs.Columns.{below_none, below_all, odds_next}
 use Rattle.columns.proofs.put_odds.Goals as goal
 
 pub loop-i-init : goal.loop-i-init
-loop-i-init c = (refl, omega arith, omega arith, below_none _ _ _)
+loop-i-init c = below_none _ _ _
 
 pub loop-i-preserved : goal.loop-i-preserved
 loop-i-preserved c =
     let a = c.args in
-    let half : c.loop-i.i ≡ (2 * c.loop-i.i + 1) / 2 = omega arith in (
-      c.loop-i.invariant.0,
-      c.loop-i.invariant.1,
-      omega arith,
-      odds_next _ a.dst.now c.loop-i.i c.loop-i.invariant.3 (omega arith) c.put_two.ensures
-          (c.mixed.ensures.0 ∙ c.two.ensures.0) (c.mixed.ensures.1 ∙ ap (λ (k : ℕ). get_or a.from.now k 0) half),
-    )
+    let half : c.loop-i.i ≡ (2 * c.loop-i.i + 1) / 2 = omega arith in
+    odds_next _ a.dst.now c.loop-i.i c.loop-i.invariant (omega arith) c.put_two.ensures
+    (c.mixed-pair.ensures.0 ∙ c.two.ensures.0) (c.mixed-pair.ensures.1 ∙ ap (λ (k : ℕ). get_or a.from.now k 0) half)
 
 pub returns : goal.returns
-returns c = below_all odd _ _ (2 * c.loop-i.i) c.loop-i.invariant.3 (omega arith)
+returns c = below_all odd _ _ (2 * c.loop-i.i) c.loop-i.invariant (omega arith)

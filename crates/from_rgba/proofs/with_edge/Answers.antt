@@ -1,28 +1,30 @@
--- `from_rgba::with_edge` meets its contract: a number that is not 0 is answered with nothing written; else the input and the planes are long enough,
+-- `from_rgba::with_edge` meets its contract: a refusal is answered with nothing written; else the input and the planes are long enough,
 -- and the planes are made.
 -- Assumes nothing.
-use mathlib.Core.Path.{◌≡◌, sym, ◌∙◌}
+use mathlib.Core.Path.{◌≡◌}
 use lib.ListN.{length}
+use Rattle.lent.proofs.Answered.{accepted, refused_as, never_0}
 use Rattle.picture.proofs.Calls.{refused, done}
 use Rattle.from_rgba.specs.FromRgba.{from_number_of, from_buffers_of}
 use Rattle.from_rgba.proofs.FromRgbaOutcome.{from_0_exactly}
-use Rattle.from_rgba.proofs.with_edge.Goals.{Else-number-ne0}
+use Rattle.from_rgba.proofs.with_edge.Goals.{In_default}
 use Rattle.from_rgba.proofs.with_edge.Goals as goal
 
-pub returns-then-number-ne0 : goal.returns-then-number-ne0
+pub returns-in-Err : goal.returns-in-Err
 unfolding from_buffers_of
-returns-then-number-ne0 c =
+returns-in-Err c =
     let a = c.args in
-    refused (from_number_of a.size (length a.rgba.now) (length a.y.now) (length a.u.now) (length a.v.now)) a.y.now a.u.now a.v.now _ _ _ c.from_number-number.ensures c.if-number-ne0.true
+    rw c.refused.ensures (refused (from_number_of a.size (length a.rgba.now) (length a.y.now) (length a.u.now) (length a.v.now)) a.y.now a.u.now a.v.now _ _ _
+    (refused_as c.check-checked.ensures c.in-Err.is) (never_0 _))
 
-number-0 : (c : Else-number-ne0) → let a = c.args in from_number_of a.size (length a.rgba.now) (length a.y.now) (length a.u.now) (length a.v.now) ≡ 0
-number-0 c = sym c.from_number-number.ensures ∙ c.if-number-ne0.false
+number-0 : (c : In_default) → let a = c.args in from_number_of a.size (length a.rgba.now) (length a.y.now) (length a.u.now) (length a.v.now) ≡ 0
+number-0 c = accepted c.check-checked.ensures c.in_default.is
 
 -- where it is not refused, the input and the planes are as long as they must be
 pub make_planes-requires : goal.make_planes-requires
 make_planes-requires c =
     let a = c.args in
-    let f = (from_0_exactly a.size (length a.rgba.now) (length a.y.now) (length a.u.now) (length a.v.now)).0 (number-0 (goal.at.make_planes-requires c).Else-number-ne0) in
+    let f = (from_0_exactly a.size (length a.rgba.now) (length a.y.now) (length a.u.now) (length a.v.now)).0 (number-0 (goal.at.make_planes-requires c).In_default) in
     record { pixels = f.0; y_fits = f.1.y_fits; u_fits = f.1.u_fits; v_fits = f.1.v_fits }
 
 pub shape_of-y : goal.shape_of-y
@@ -38,4 +40,4 @@ pub returns : goal.returns
 unfolding from_buffers_of
 returns c =
     let a = c.args in
-    done (from_number_of a.size (length a.rgba.now) (length a.y.now) (length a.u.now) (length a.v.now)) a.y.now a.u.now a.v.now _ _ _ (number-0 (goal.at.returns c).Else-number-ne0) c.make_planes.ensures.y c.make_planes.ensures.u c.make_planes.ensures.v
+    rw c.done.ensures (done (from_number_of a.size (length a.rgba.now) (length a.y.now) (length a.u.now) (length a.v.now)) a.y.now a.u.now a.v.now _ _ _ (number-0 (goal.at.returns c).In_default) c.make_planes.ensures.y c.make_planes.ensures.u c.make_planes.ensures.v)

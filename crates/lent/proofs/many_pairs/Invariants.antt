@@ -1,10 +1,7 @@
-use Prim.Native.Nat.{◌-◌, ◌*◌, ◌/◌, ◌≤◌}
+use Prim.Native.Nat.{◌*◌, ◌/◌}
 use lib.ListN.{get_or}
 use Rattle.lent.proofs.SoFar.{SoFar}
 use Rattle.lent.proofs.many_pairs.Given as goal
 
-abbrev pub invariant-loop-i : goal.invariant-loop-i
-invariant-loop-i l = (l.i ≤ l.n) × SoFar (λ k. get_or l.from (k / 2) 0) l.initial.dst l.dst (2 * l.i)
-
-abbrev pub decreases-loop-i : goal.decreases-loop-i
-decreases-loop-i l = l.most - l.i
+abbrev pub invariant-loop-k : goal.invariant-loop-k
+invariant-loop-k l = SoFar (λ j. get_or l.from (j / 2) 0) l.initial.dst l.dst (2 * (8 * l.k))

@@ -2,35 +2,23 @@
 -- Assumes nothing.
 use Prim.Native.Nat.{ℕ, ◌+◌, ◌*◌, ◌/◌, ◌%◌, ◌<◌}
 use native.Mathlib.Omega.{arith}
-use mathlib.Core.Path.{◌≡◌, refl, ap, ◌∙◌}
-use lib.ListN.{length, get_or, set, length-set}
-use borrow.Author.Tests.{le-ltb}
-use Rattle.lent.proofs.Paint.{paint_none, paint_pair}
+use mathlib.Core.Path.{◌≡◌, ap, ◌∙◌}
+use lib.ListN.{get_or}
+use Rattle.lent.proofs.SoFar.{so_far_none}
+use Rattle.lent.proofs.ByPart.{so_far_two}
 use Rattle.lent.proofs.pairs.Goals as goal
 
 pub loop-i-init : goal.loop-i-init
-loop-i-init c = (omega arith, refl, paint_none _ _ _ (λ k h. le-ltb k (2 * 0) (omega arith)))
-
-pub overflow_cast-from : goal.overflow_cast-from
-overflow_cast-from c = omega (arith, c.type_inv.from c.loop-i.i)
-
-pub overflow_mul-from : goal.overflow_mul-from
-overflow_mul-from c = omega (arith, c.type_inv.from c.loop-i.i)
+loop-i-init c = so_far_none _ _
 
 pub loop-i-preserved : goal.loop-i-preserved
 loop-i-preserved c =
-    let a = c.args in
-    let b : ℕ = get_or a.from.now c.loop-i.i 0 in
-    let small : b < 256 = omega (arith, c.type_inv.from c.loop-i.i) in
-    let low : 257 * b % 256 ≡ b = omega arith in
-    let high : 257 * b / 256 ≡ b = omega arith in
-    let stored = c.put_two.ensures ∙ (λ t. set (set (c.loop-i.invariant.2 t) (2 * c.loop-i.i) (low t)) (2 * c.loop-i.i + 1) (high t)) in (
-      omega arith,
-      omega (arith, simp length-set at (ap length c.put_two.ensures)),
-      stored ∙ paint_pair (λ k. get_or a.from.now k 0) _ c.loop-i.i b (omega arith) refl,
-    )
-
-pub returns : goal.returns
-returns c =
-    let done : c.loop-i.i ≡ c.args.count = omega arith in
-    rw done at c.loop-i.invariant.2
+    let from = c.args.from.now in
+    let i : ℕ = c.loop-i.i in
+    let small : get_or from i 0 < 256 = omega (arith, c.type_inv.from i) in
+    let low : 257 * c.from.result % 256 ≡ get_or from i 0 = omega (arith, c.from.ensures) in
+    let high : 257 * c.from.result / 256 ≡ get_or from i 0 = omega (arith, c.from.ensures) in
+    let even : i ≡ 2 * i / 2 = omega arith in
+    let odd : i ≡ (2 * i + 1) / 2 = omega arith in
+    let byte = λ (k : ℕ). get_or from k 0 in
+    so_far_two _ _ i c.loop-i.invariant (omega arith) (low ∙ ap byte even) (high ∙ ap byte odd) c.put_two.ensures

@@ -30,9 +30,9 @@ marked s = let a = s.args in map_after a.size (Main a.w a.rects.now) a.map.now
 pub returns-then-map_short : goal.returns-then-map_short
 returns-then-map_short c =
     let a = c.args in
-    ends_short a.size a.w a.rects.now a.vy.now a.vu.now a.vv.now a.y.now a.u.now a.v.now a.map.now (planes (goal.at.returns-then-map_short c).Start) (marked (goal.at.returns-then-map_short c).Start)
+    rw c.refused.ensures (ends_short a.size a.w a.rects.now a.vy.now a.vu.now a.vv.now a.y.now a.u.now a.v.now a.map.now (planes (goal.at.returns-then-map_short c).Start) (marked (goal.at.returns-then-map_short c).Start)
     (sym c.map_short.ensures ∙ c.if-map_short.true)
-    (λ n some. main_kept a.size a.w a.rects.now a.vy.now a.vu.now a.vv.now a.y.now a.u.now a.v.now n some)
+    (λ n some. main_kept a.size a.w a.rects.now a.vy.now a.vu.now a.vv.now a.y.now a.u.now a.v.now n some))
 
 long : (e : Else-map_short) → let a = e.args in map_short a.size (length a.map.now) ≡ false
 long e = sym e.map_short.ensures ∙ e.if-map_short.false

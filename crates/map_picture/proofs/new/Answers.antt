@@ -26,8 +26,8 @@ number s =
 pub returns-then-map_short : goal.returns-then-map_short
 returns-then-map_short c =
     let a = c.args in
-    joined_refused (number (goal.at.returns-then-map_short c).Start) a.y.now a.u.now a.v.now a.map.now _ _ _ _
-    (map_new_short a.size _ _ _ (length a.map.now) (sym c.map_short.ensures ∙ c.if-map_short.true)) (λ e. omega arith)
+    rw c.refused.ensures (joined_refused (number (goal.at.returns-then-map_short c).Start) a.y.now a.u.now a.v.now a.map.now _ _ _ _
+    (map_new_short a.size _ _ _ (length a.map.now) (sym c.map_short.ensures ∙ c.if-map_short.true)) (λ e. omega arith))
 
 long : (k : Else-map_short) → map_short k.args.size (length k.args.map.now) ≡ false
 long k = sym k.map_short.ensures ∙ k.if-map_short.false

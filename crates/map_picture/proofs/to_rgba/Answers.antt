@@ -35,7 +35,8 @@ written s =
 pub returns-then-map_short : goal.returns-then-map_short
 returns-then-map_short c =
     let a = c.args in
-    let is : 1 ≡ number (goal.at.returns-then-map_short c).Start = map_to_rgba_short _ _ _ _ _ _ _ (sym c.map_short.ensures ∙ c.if-map_short.true) in
+    let one = c.number.ensures in
+    let is = one ∙ map_to_rgba_short a.size _ _ _ _ (length a.map.now) _ (sym c.map_short.ensures ∙ c.if-map_short.true) in
     record {
       answer = c.none.ensures ∙ pixels_none is _ _ _ _ (λ e. omega arith);
       buffers = λ i. lent_refused (number (goal.at.returns-then-map_short c).Start) a.out.now (written (goal.at.returns-then-map_short c).Start) (λ e. omega (arith, is ∙ e)) i ∷ [];

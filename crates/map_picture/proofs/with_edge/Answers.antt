@@ -7,12 +7,13 @@ use mathlib.Core.Bool.{false}
 use mathlib.Core.List.{[], ◌∷◌}
 use lib.ListN.{length}
 use Rattle.lent.specs.Outcome.{Outcome, answer_of}
+use Rattle.lent.proofs.Answered.{never_0}
 use Rattle.from_rgba.specs.FromRgba.{from_buffers_of, made_buffers_of}
 use Rattle.map.specs.Map.{map_short}
 use Rattle.map.proofs.Joined.{renumbered, joined_passed, joined_set, joined_refused}
 use Rattle.map.proofs.Sizes.{map_fit_exactly}
 use Rattle.map_picture.specs.Made.{map_from_number_of}
-use Rattle.map_picture.proofs.Numbers.{map_from_short, map_from_planes, from_short_some}
+use Rattle.map_picture.proofs.Numbers.{map_from_short, map_from_planes}
 use Rattle.map_picture.proofs.with_edge.Goals.{After-with_edge-made, Else-map_short, Start}
 use Rattle.map_picture.proofs.with_edge.Goals as goal
 
@@ -25,9 +26,9 @@ number s =
 pub returns-then-map_short : goal.returns-then-map_short
 returns-then-map_short c =
     let a = c.args in
-    joined_refused (number (goal.at.returns-then-map_short c).Start) a.y.now a.u.now a.v.now a.map.now _ _ _ _
+    rw c.refused.ensures (joined_refused (number (goal.at.returns-then-map_short c).Start) a.y.now a.u.now a.v.now a.map.now _ _ _ _
     (c.from_short.ensures ∙ map_from_short a.size (length a.rgba.now) _ _ _ (length a.map.now) (sym c.map_short.ensures ∙ c.if-map_short.true))
-    (λ e. from_short_some a.size (length a.rgba.now) (sym c.from_short.ensures ∙ e))
+    (never_0 _))
 
 long : (k : Else-map_short) → map_short k.args.size (length k.args.map.now) ≡ false
 long k = sym k.map_short.ensures ∙ k.if-map_short.false

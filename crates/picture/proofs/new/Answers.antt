@@ -1,32 +1,34 @@
--- `picture::new` meets its contract: a number that is not 0 is answered with nothing written; else the planes are long enough, and each
+-- `picture::new` meets its contract: a refusal is answered with nothing written; else the planes are long enough, and each
 -- is filled.
 -- Assumes nothing.
 use Prim.Native.Nat.{ℕ, ◌*◌, ◌≤◌}
 use mathlib.Core.Path.{◌≡◌, sym, ◌∙◌}
 use mathlib.Core.List.{List}
 use lib.ListN.{length}
+use native.Mathlib.Omega.{arith}
+use Rattle.lent.proofs.Bools.{cond-true, cond-false}
 use Rattle.lent.specs.Paint.{painted, whole}
 use Rattle.picture.specs.Sizes.{plane_of}
 use Rattle.picture.specs.New.{new_number_of, new_buffers_of}
 use Rattle.picture.proofs.Calls.{refused, done}
 use Rattle.picture.proofs.NewOutcome.{new_0_exactly}
-use Rattle.picture.proofs.new.Goals.{After-rows-rows, Else-number-ne0}
+use Rattle.picture.proofs.new.Goals.{After-rows-rows, Else-planes_short}
 use Rattle.picture.proofs.new.Goals as goal
 
-pub returns-then-number-ne0 : goal.returns-then-number-ne0
+pub returns-then-planes_short : goal.returns-then-planes_short
 unfolding new_buffers_of
-returns-then-number-ne0 c =
+returns-then-planes_short c =
     let a = c.args in
-    refused (new_number_of a.size (length a.y.now) (length a.u.now) (length a.v.now)) a.y.now a.u.now a.v.now _ _ _ c.new_number-number.ensures c.if-number-ne0.true
+    rw c.refused.ensures (refused (new_number_of a.size (length a.y.now) (length a.u.now) (length a.v.now)) a.y.now a.u.now a.v.now _ _ _ (sym (cond-true _ 1 0 (sym c.planes_short.ensures ∙ c.if-planes_short.true))) (λ e. omega arith))
 
-number-0 : (c : Else-number-ne0) → let a = c.args in new_number_of a.size (length a.y.now) (length a.u.now) (length a.v.now) ≡ 0
-number-0 c = sym c.new_number-number.ensures ∙ c.if-number-ne0.false
+number-0 : (c : Else-planes_short) → let a = c.args in new_number_of a.size (length a.y.now) (length a.u.now) (length a.v.now) ≡ 0
+number-0 c = cond-false _ 1 0 (sym c.planes_short.ensures ∙ c.if-planes_short.false)
 
 -- where it is not refused, each plane is as long as it must be
 fits : (c : After-rows-rows) → let a = c.args in let n = c.rows-rows.result * c.stride-stride.result in (n ≤ length a.y.now) × (n ≤ length a.u.now) × (n ≤ length a.v.now)
 fits c =
     let a = c.args in
-    let f = (new_0_exactly a.size (length a.y.now) (length a.u.now) (length a.v.now)).0 ((sym c.new_number-number.ensures ∙ c.if-number-ne0.false)) in
+    let f = (new_0_exactly a.size (length a.y.now) (length a.u.now) (length a.v.now)).0 (cond-false _ 1 0 (sym c.planes_short.ensures ∙ c.if-planes_short.false)) in
     rw (c.rows-rows.ensures.0, c.stride-stride.ensures.0) (f.y_fits, f.u_fits, f.v_fits)
 
 -- and what is filled is the picture's plane
@@ -55,5 +57,5 @@ pub returns : goal.returns
 unfolding new_buffers_of
 returns c =
     let a = c.args in
-    done _ a.y.now a.u.now a.v.now _ _ _ (number-0 (goal.at.returns c).Else-number-ne0)
-    (c.fill_plane.ensures ∙ filled (goal.at.returns c).After-rows-rows _ a.y.now) (c.fill_plane-2.ensures ∙ filled (goal.at.returns c).After-rows-rows _ a.u.now) (c.fill_plane-3.ensures ∙ filled (goal.at.returns c).After-rows-rows _ a.v.now)
+    rw c.done.ensures (done _ a.y.now a.u.now a.v.now _ _ _ (number-0 (goal.at.returns c).Else-planes_short)
+    (c.fill_plane.ensures ∙ filled (goal.at.returns c).After-rows-rows _ a.y.now) (c.fill_plane-2.ensures ∙ filled (goal.at.returns c).After-rows-rows _ a.u.now) (c.fill_plane-3.ensures ∙ filled (goal.at.returns c).After-rows-rows _ a.v.now))

@@ -8,5 +8,5 @@ use Rattle.split_rows.proofs.fourths_64.Goals as goal
 pub returns : goal.returns
 returns c =
     let a = c.args in
-    c.seconds_64.ensures
-    ∙ rw c.seconds_128.ensures (fourths_twice a.src.now _ a.dst.now a.first (omega arith) c.requires.first_bound)
+    c.seconds.ensures
+    ∙ rw c.seconds_twice.ensures (fourths_twice a.src.now _ a.dst.now a.first (omega arith) c.requires.first_bound)

@@ -1,12 +1,7 @@
-use Prim.Native.Nat.{◌-◌, ◌≤◌}
 use mathlib.Core.Path.{◌≡◌}
-use lib.ListN.{length}
 use Rattle.lent.specs.Paint.{painted, whole, up_to}
 use Rattle.split_views.specs.Views.{seen}
 use Rattle.split_views.proofs.main_luma.Given as goal
 
 abbrev pub invariant-loop-row : goal.invariant-loop-row
-invariant-loop-row l = (l.row ≤ l.rows) × (length l.out ≡ length l.initial.out) × (l.out ≡ painted l.wide l.rows (up_to whole l.row) (seen 0 l.plane l.stride) l.initial.out)
-
-abbrev pub decreases-loop-row : goal.decreases-loop-row
-decreases-loop-row l = l.rows - l.row
+invariant-loop-row l = l.out ≡ painted l.wide l.rows (up_to whole l.row) (seen 0 l.plane l.stride) l.initial.out

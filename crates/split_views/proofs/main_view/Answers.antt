@@ -2,7 +2,6 @@
 -- Assumes nothing.
 use Prim.Native.Nat.{ℕ, ◌+◌, ◌*◌, ◌/◌}
 use native.Mathlib.Nat.{add-zero}
-use native.Mathlib.Omega.{arith}
 use mathlib.Core.Path.{◌≡◌, ap, ◌∙◌}
 use mathlib.Core.List.{List}
 use Rattle.lent.specs.Paint.{painted, whole}
@@ -14,41 +13,6 @@ use Rattle.split_views.proofs.main_view.Goals as goal
 even-plane : (plane xs : List ℕ) (stride wide rows : ℕ)
     → painted (wide / 2) (rows / 2) whole (λ r c. seen 128 plane stride (2 * r) (2 * c + 0)) xs ≡ painted (wide / 2) (rows / 2) whole (λ r c. seen 128 plane stride (2 * r) (2 * c)) xs
 even-plane plane xs stride wide rows = same_plane _ _ _ _ xs (λ r c. ap (seen 128 plane stride (2 * r)) (add-zero (2 * c)))
-
-pub main_luma-requires : goal.main_luma-requires
-main_luma-requires c =
-    record {
-      wide_in_bounds = c.requires.room.y_room;
-      stride_in_bounds = c.requires.macroblocks_fit.fits;
-      stride_le_wide = c.requires.stride_le_wide;
-    }
-
-pub half_plane-requires : goal.half_plane-requires
-half_plane-requires c =
-    record {
-      wide_in_bounds = c.requires.room.u_room;
-      macroblocks_fit = c.requires.macroblocks_fit_2;
-      stride_le_wide = c.requires.stride_le_wide;
-      first_bound = omega arith;
-    }
-
-pub half_plane-requires-2 : goal.half_plane-requires-2
-half_plane-requires-2 c =
-    record {
-      wide_in_bounds = c.requires.room.v_room;
-      macroblocks_fit = c.requires.macroblocks_fit_3;
-      stride_le_wide = c.requires.stride_le_wide;
-      first_bound = omega arith;
-    }
-
-pub shape_of-main_y : goal.shape_of-main_y
-shape_of-main_y c = c.main_luma.auto.out
-
-pub shape_of-main_u : goal.shape_of-main_u
-shape_of-main_u c = c.half_plane.auto.out
-
-pub shape_of-main_v : goal.shape_of-main_v
-shape_of-main_v c = c.half_plane-2.auto.out
 
 pub returns : goal.returns
 returns c =

@@ -1,18 +1,16 @@
 -- `strict::apply_auxiliary_view_strict` meets its contract: a number that is not 0 is answered with nothing run; else the clipping call is run, whose
 -- number is the same.
 -- Assumes nothing.
-use mathlib.Core.Path.{◌≡◌, sym, ◌∙◌}
+use mathlib.Core.Path.{◌≡◌}
+use Rattle.lent.proofs.Answered.{accepted, refused_as, never_0}
 use Rattle.strict.specs.Calls.{lent_strict_number_of}
 use Rattle.strict.proofs.Ends.{auxiliary_refused, auxiliary_run}
 use Rattle.strict.proofs.apply_auxiliary_view_strict.Goals as goal
 
-pub strict_number-found-requires : goal.strict_number-found-requires
-strict_number-found-requires c = tt
-
-pub returns-then-found-ne0 : goal.returns-then-found-ne0
-returns-then-found-ne0 c =
+pub returns-in-Err : goal.returns-in-Err
+returns-in-Err c =
     let a = c.args in
-    auxiliary_refused a.size a.w a.rects.now a.vy.now a.vu.now a.vv.now a.y.now a.u.now a.v.now a.map.now a.layout c.strict_number-found.ensures c.if-found-ne0.true
+    rw c.refused.ensures (auxiliary_refused a.size a.w a.rects.now a.vy.now a.vu.now a.vv.now a.y.now a.u.now a.v.now a.map.now a.layout (refused_as c.check-found.ensures c.in-Err.is) (never_0 _))
 
 pub apply_auxiliary_view-requires : goal.apply_auxiliary_view-requires
 apply_auxiliary_view-requires c = tt
@@ -34,5 +32,5 @@ pub returns : goal.returns
 returns c =
     let a = c.args in
     let number-0 : lent_strict_number_of a.size a.w a.rects.now a.vy.now a.vu.now a.vv.now a.y.now a.u.now a.v.now a.map.now ≡ 0 =
-    sym c.strict_number-found.ensures ∙ c.if-found-ne0.false in
+    accepted c.check-found.ensures c.in_default.is in
     auxiliary_run a.size a.w a.rects.now a.vy.now a.vu.now a.vv.now a.y.now a.u.now a.v.now a.map.now a.layout number-0 c.apply_auxiliary_view.ensures

@@ -6,7 +6,6 @@ use mathlib.Core.Path.{◌≡◌, refl, ◌∙◌}
 use mathlib.Core.List.{List}
 use borrow.Author.Rules.{rules}
 use lib.ListN.{length}
-use Rattle.colour.specs.Products.{Tables}
 use Rattle.lent.proofs.Counts.{total_none}
 use Rattle.lent.proofs.ByPart.{part_long}
 use Rattle.to_rgba.specs.Picture.{filtered_rows_of}
@@ -26,22 +25,12 @@ counted : (e : After-put_row-filtered) → let a = e.args in
 counted e =
     let a = e.args in
     let more = filtered_more a.stride a.left a.top a.n a.h e.loop-r.r (length a.out.now) e.loop-r-test.true e.requires.room in (
-      more a.u.now _ _ e.loop-r.invariant.3 (λ t. (e.put_row-filtered.ensures.value t).u),
-      more a.v.now _ _ e.loop-r.invariant.4 (λ t. (e.put_row-filtered.ensures.value t).v),
+      more a.u.now _ _ e.loop-r.invariant.2 (λ t. (e.put_row-filtered.ensures.value t).u),
+      more a.v.now _ _ e.loop-r.invariant.3 (λ t. (e.put_row-filtered.ensures.value t).v),
     )
 
--- what is lent are the four tables
-tables : (l : At-loop-r) → Tables l.red_v-rv.result l.green_u-gu.result
-    l.green_v-gv.result l.blue_u-bu.result
-tables l = record {
-  red = l.red_v-rv.ensures;
-  green_u_lem = l.green_u-gu.ensures;
-  green_v_lem = l.green_v-gv.ensures;
-  blue = l.blue_u-bu.ensures;
-}
-
 pub loop-r-init : goal.loop-r-init
-loop-r-init c = (omega arith, refl, pictured_none _ _ _ _, total_none _, total_none _)
+loop-r-init c = (refl, pictured_none _ _ _ _, total_none _, total_none _)
 
 pub overflow_mul-start : goal.overflow_mul-start
 overflow_mul-start c = omega (arith, room (goal.at.overflow_mul-start c).At-loop-r (omega arith))
@@ -70,7 +59,6 @@ put_row-filtered-requires c =
         even_rows = omega arith;
       };
       out_len = omega arith;
-      tables = tables (goal.at.put_row-filtered-requires c).At-loop-r;
     }
 
 pub overflow_add-filtered_u : goal.overflow_add-filtered_u
@@ -82,9 +70,8 @@ overflow_add-filtered_v c = omega (arith, (counted (goal.at.overflow_add-filtere
 pub loop-r-preserved : goal.loop-r-preserved
 loop-r-preserved c =
     let fits = c.requires in (
-      omega arith,
       search rules,
-      pictured_more _ _ _ _ c.loop-r.r (omega arith) (omega arith) c.loop-r.invariant.2 c.put_row-filtered.ensures.out_after refl,
+      pictured_more _ _ _ _ c.loop-r.r (omega arith) (omega arith) c.loop-r.invariant.1 c.put_row-filtered.ensures.out_after refl,
       (counted (goal.at.loop-r-preserved c).After-put_row-filtered).0.1,
       (counted (goal.at.loop-r-preserved c).After-put_row-filtered).1.1,
     )
@@ -92,9 +79,9 @@ loop-r-preserved c =
 pub returns : goal.returns
 returns c =
     let all : c.loop-r.r ≡ c.args.h = omega arith in
-    let in-u = rw all at c.loop-r.invariant.3 in
-    let in-v = rw all at c.loop-r.invariant.4 in
+    let in-u = rw all at c.loop-r.invariant.2 in
+    let in-v = rw all at c.loop-r.invariant.3 in
     record {
-      out_after = c.loop-r.invariant.2 ∙ pictured_all _ _ _ _ c.loop-r.r (omega arith);
+      out_after = c.loop-r.invariant.1 ∙ pictured_all _ _ _ _ c.loop-r.r (omega arith);
       value = λ t. record { u = in-u t; v = in-v t };
     }

@@ -1,4 +1,3 @@
-use Prim.Native.Nat.{◌-◌, ◌≤◌}
 use mathlib.Core.Path.{◌≡◌}
 use lib.ListN.{length}
 use Rattle.to_rgba.specs.Pictured.{pictured_to, shifted}
@@ -8,8 +7,5 @@ use Rattle.to_rgba.proofs.put_rows.Given as goal
 
 abbrev pub invariant-loop-r : goal.invariant-loop-r
 invariant-loop-r l =
-    (l.r ≤ l.h) × (length l.out ≡ length l.initial.out) × (l.out ≡ pictured_to l.r l.n l.h (shifted l.top l.left (pixel_at l.stride l.y l.u l.v)) l.initial.out)
+    (length l.out ≡ length l.initial.out) × (l.out ≡ pictured_to l.r l.n l.h (shifted l.top l.left (pixel_at l.stride l.y l.u l.v)) l.initial.out)
     × (l.filtered_u ≡ filtered_rows_of l.stride l.left l.top l.n l.r l.u) × (l.filtered_v ≡ filtered_rows_of l.stride l.left l.top l.n l.r l.v)
-
-abbrev pub decreases-loop-r : goal.decreases-loop-r
-decreases-loop-r l = l.h - l.r

@@ -2,14 +2,15 @@
 -- Assumes nothing.
 use Prim.Native.Nat.{◌*◌, ◌≤◌}
 use native.Mathlib.Omega.{arith}
-use mathlib.Core.Path.{◌≡◌, sym, ◌∙◌}
-use mathlib.Core.Logic.{⊎_elim}
+use mathlib.Core.Path.{◌≡◌, refl, sym, ◌∙◌}
+use lib.ListN.{length}
 use borrow.Author.Tests.{eqb-false}
+use Rattle.lent.proofs.Answered.{accepted, refused_as, never_0}
 use Rattle.picture.proofs.Sizes.{plane_small}
-use Rattle.to_rgba.specs.Picture.{pixels_of}
+use Rattle.to_rgba.specs.Picture.{to_rgba_count_of, to_rgba_number_of, pixels_of}
 use Rattle.to_rgba.proofs.Picture.{counted, numbered, written, filtered_is, rows_fit, empty_unchanged, empty_unfiltered}
 use Rattle.to_rgba.proofs.Ends.{pixels_refused, pixels_answered}
-use Rattle.to_rgba.proofs.to_rgba.Goals.{After-clipped-h}
+use Rattle.to_rgba.proofs.to_rgba.Goals.{After-clipped-h, In_default}
 use Rattle.to_rgba.proofs.to_rgba.Goals as goal
 
 -- columns and rows of the clipped rectangle are few, so that nothing wraps
@@ -22,27 +23,34 @@ overflow_mul-count c = omega (arith, few (goal.at.overflow_mul-count c).After-cl
 pub overflow_mul-count-2 : goal.overflow_mul-count-2
 overflow_mul-count-2 c = omega (arith, few (goal.at.overflow_mul-count-2 c).After-clipped-h)
 
-pub returns-then-number-ne0 : goal.returns-then-number-ne0
-returns-then-number-ne0 c =
+-- an accepted call has the number 0
+zero : (c : In_default) → let a = c.args in
+    0 ≡ to_rgba_number_of a.size (to_rgba_count_of a.size a.rect) (length a.y.now) (length a.u.now) (length a.v.now) (length a.out.now)
+zero c =
     let a = c.args in
-    let across = c.clipped-n.ensures in
-    let down = c.clipped-h.ensures in
-    let is = numbered a.size a.rect across down _ _ _ _ c.to_rgba_number-number.ensures in
-    ⊎_elim
-    (λ some. pixels_refused _ _ is _ _ _ some c.none.ensures)
-    (λ none. let zero : c.to_rgba_number-number.result ≡ 0 = none.0 in
-    let empty = sym (counted a.size a.rect across down) ∙ none.1 in
+    numbered a.size a.rect c.clipped-n.ensures c.clipped-h.ensures _ _ _ _ (sym (accepted c.check-checked.ensures c.in_default.is))
+
+pub returns-in-Err : goal.returns-in-Err
+returns-in-Err c =
+    let a = c.args in
+    let number = c.number.ensures in
+    let is = numbered a.size a.rect c.clipped-n.ensures c.clipped-h.ensures _ _ _ _ (number ∙ refused_as c.check-checked.ensures c.in-Err.is) in
+    pixels_refused _ _ is _ _ _ (λ z. never_0 _ (sym number ∙ z)) c.none.ensures
+
+pub returns-then-count-eq0 : goal.returns-then-count-eq0
+returns-then-count-eq0 c =
+    let a = c.args in
+    let empty = sym (counted a.size a.rect c.clipped-n.ensures c.clipped-h.ensures) ∙ c.if-count-eq0.true in
     let unfiltered = empty_unfiltered a.size a.rect empty in
-    pixels_answered _ _ is _ _ _ zero
-    (c.none.ensures ∙ (λ i. pixels_of (zero i) (sym empty i) (unfiltered a.u.now i) (unfiltered a.v.now i)))
-    (empty_unchanged a.size a.rect empty a.y.now a.u.now a.v.now a.out.now))
-    c.then-number-ne0.either
+    pixels_answered _ _ (zero (goal.at.returns-then-count-eq0 c).In_default) _ _ _ refl
+    (c.none-then-count-eq0.ensures ∙ (λ i. pixels_of 0 (sym empty i) (unfiltered a.u.now i) (unfiltered a.v.now i)))
+    (empty_unchanged a.size a.rect empty a.y.now a.u.now a.v.now a.out.now)
 
 pub put_rows-filtered-requires : goal.put_rows-filtered-requires
 put_rows-filtered-requires c =
     let a = c.args in
     rows_fit a.size a.rect c.clipped-n.ensures c.clipped-h.ensures c.stride.ensures.0 c.rows.ensures.0
-    _ _ _ _ c.to_rgba_number-number.ensures (omega arith) (omega (arith, eqb-false)) (omega arith)
+    _ _ _ _ (sym (accepted c.check-checked.ensures c.in_default.is)) refl (omega (arith, eqb-false)) (omega arith)
 
 pub returns : goal.returns
 returns c =
@@ -51,7 +59,7 @@ returns c =
     let down = c.clipped-h.ensures in
     let wide = c.stride.ensures.0 in
     let in-rect = filtered_is a.size a.rect across down wide in
-    pixels_answered _ _ (numbered a.size a.rect across down _ _ _ _ c.to_rgba_number-number.ensures) _ _ _ (omega arith)
+    pixels_answered _ _ (zero (goal.at.returns c).In_default) _ _ _ refl
     (λ i. record {
       number = 0;
       count = counted a.size a.rect across down i;

@@ -9,7 +9,6 @@ shares-requires c =
     record {
       r_len = (omega arith, omega arith, omega arith);
       n_bound = (omega arith, omega arith, omega arith);
-      tables = c.requires.tables;
     }
 
 pub shades-requires : goal.shades-requires

@@ -1,43 +1,47 @@
--- `wire_back::read_write` meets its contract: a number that is not 0 is answered with nothing written; else neither copy nor the writer
+-- `wire_back::read_write` meets its contract: a refusal is answered with nothing written; else neither copy nor the writer
 -- refuses, and the lists' fronts are the numbers of the payload's rectangles. That the payload is of bytes is known from its type.
 -- Assumes nothing.
-use Prim.Native.Nat.{ℕ}
-use mathlib.Core.Path.{◌≡◌, sym, ◌∙◌}
-use mathlib.Core.List.{List}
+use Prim.Native.Nat.{◌≤◌}
+use mathlib.Core.Path.{sym}
 use lib.ListN.{length}
-use Rattle.wire_back.specs.Back.{AllBelow, read_write_number_of}
+use lib.Seq.{length-take-le}
+use Rattle.lent.proofs.Answered.{never_0, refused_as}
 use Rattle.wire_back.proofs.Numbers.{bytes_at}
 use Rattle.wire_back.proofs.Again.{none_refuses, list_fits, refused_back, written_back}
-use Rattle.wire_back.proofs.read_write.Goals.{After-read_write_number-number, Else-number-ne0}
+use Rattle.wire_back.proofs.read_write.Goals.{After-copy_rects-luma, After-copy_rects-chroma}
 use Rattle.wire_back.proofs.read_write.Goals as goal
 
--- the call's four lists, where its number is found
-abbrev payload : After-read_write_number-number → List ℕ
-payload c = c.args.payload.now
+pub returns-in-Err : goal.returns-in-Err
+returns-in-Err c =
+    let a = c.args in
+    rw c.refused.ensures
+    (refused_back a.payload.now a.luma_rects.now a.chroma_rects.now a.out.now (bytes_at a.payload.now (λ i. (c.type_inv.payload i).fits)) (refused_as c.check.ensures c.in-Err.is) (never_0 _))
 
-abbrev lumas : After-read_write_number-number → List ℕ
-lumas c = c.args.luma_rects.now
+-- each list is long enough to lend its front
+luma_fits : (c : After-copy_rects-luma) → c.copy_rects-luma.result.count ≤ length c.copy_rects-luma.new.out
+luma_fits c =
+    let a = c.args in
+    list_fits a.payload.now _ a.luma_rects.now c.copy_rects-luma.ensures (none_refuses a.payload.now a.luma_rects.now a.chroma_rects.now a.out.now (sym c.in_default.ensures)).0
 
-abbrev chromas : After-read_write_number-number → List ℕ
-chromas c = c.args.chroma_rects.now
-
-abbrev output : After-read_write_number-number → List ℕ
-output c = c.args.out.now
-
-bytes : (c : After-read_write_number-number) → AllBelow 256 (payload c)
-bytes c = bytes_at (payload c) (λ i. (c.shared_slice_known-1.given i).fits)
-
-zero_number : (c : Else-number-ne0) → read_write_number_of ((let inl : (List ℕ) = c.args.payload.now in inl)) (length ((let inl : (List ℕ) = c.args.luma_rects.now in inl))) (length ((let inl : (List ℕ) = c.args.chroma_rects.now in inl))) (length ((let inl : (List ℕ) = c.args.out.now in inl))) ≡ 0
-zero_number c = sym c.read_write_number-number.ensures ∙ c.if-number-ne0.false
-
-pub returns-then-number-ne0 : goal.returns-then-number-ne0
-returns-then-number-ne0 c = refused_back (payload (goal.at.returns-then-number-ne0 c).After-read_write_number-number) (lumas (goal.at.returns-then-number-ne0 c).After-read_write_number-number) (chromas (goal.at.returns-then-number-ne0 c).After-read_write_number-number) (output (goal.at.returns-then-number-ne0 c).After-read_write_number-number) (bytes (goal.at.returns-then-number-ne0 c).After-read_write_number-number) c.read_write_number-number.ensures c.if-number-ne0.true
+chroma_fits : (c : After-copy_rects-chroma) → c.copy_rects-chroma.result.count ≤ length c.copy_rects-chroma.new.out
+chroma_fits c =
+    let a = c.args in
+    list_fits a.payload.now _ a.chroma_rects.now c.copy_rects-chroma.ensures (none_refuses a.payload.now a.luma_rects.now a.chroma_rects.now a.out.now (sym c.in_default.ensures)).1.0
 
 pub slice_bounds-write_again-end : goal.slice_bounds-write_again-end
-slice_bounds-write_again-end c = list_fits (payload (goal.at.slice_bounds-write_again-end c).After-read_write_number-number) _ (lumas (goal.at.slice_bounds-write_again-end c).After-read_write_number-number) c.copy_rects-luma.ensures (none_refuses (payload (goal.at.slice_bounds-write_again-end c).After-read_write_number-number) (lumas (goal.at.slice_bounds-write_again-end c).After-read_write_number-number) (chromas (goal.at.slice_bounds-write_again-end c).After-read_write_number-number) (output (goal.at.slice_bounds-write_again-end c).After-read_write_number-number) (zero_number (goal.at.slice_bounds-write_again-end c).Else-number-ne0)).0
+slice_bounds-write_again-end c = luma_fits (goal.at.slice_bounds-write_again-end c).After-copy_rects-luma
 
 pub slice_bounds-write_again-end-2 : goal.slice_bounds-write_again-end-2
-slice_bounds-write_again-end-2 c = list_fits (payload (goal.at.slice_bounds-write_again-end-2 c).After-read_write_number-number) _ (chromas (goal.at.slice_bounds-write_again-end-2 c).After-read_write_number-number) c.copy_rects-chroma.ensures (none_refuses (payload (goal.at.slice_bounds-write_again-end-2 c).After-read_write_number-number) (lumas (goal.at.slice_bounds-write_again-end-2 c).After-read_write_number-number) (chromas (goal.at.slice_bounds-write_again-end-2 c).After-read_write_number-number) (output (goal.at.slice_bounds-write_again-end-2 c).After-read_write_number-number) (zero_number (goal.at.slice_bounds-write_again-end-2 c).Else-number-ne0)).1.0
+slice_bounds-write_again-end-2 c = sym (length-take-le _ _ (luma_fits (goal.at.slice_bounds-write_again-end-2 c).After-copy_rects-luma))
+
+pub slice_bounds-write_again-end-3 : goal.slice_bounds-write_again-end-3
+slice_bounds-write_again-end-3 c = chroma_fits (goal.at.slice_bounds-write_again-end-3 c).After-copy_rects-chroma
+
+pub slice_bounds-write_again-end-4 : goal.slice_bounds-write_again-end-4
+slice_bounds-write_again-end-4 c = sym (length-take-le _ _ (chroma_fits (goal.at.slice_bounds-write_again-end-4 c).After-copy_rects-chroma))
 
 pub returns : goal.returns
-returns c = written_back (payload (goal.at.returns c).After-read_write_number-number) (lumas (goal.at.returns c).After-read_write_number-number) (chromas (goal.at.returns c).After-read_write_number-number) (output (goal.at.returns c).After-read_write_number-number) (bytes (goal.at.returns c).After-read_write_number-number) (zero_number (goal.at.returns c).Else-number-ne0) c.copy_rects-luma.ensures c.copy_rects-chroma.ensures c.write_again.ensures
+returns c =
+    let a = c.args in
+    written_back a.payload.now a.luma_rects.now a.chroma_rects.now a.out.now (bytes_at a.payload.now (λ i. (c.type_inv.payload i).fits)) (sym c.in_default.ensures)
+    c.copy_rects-luma.ensures c.copy_rects-chroma.ensures c.write_again.ensures

@@ -18,12 +18,12 @@ either-kind k = ⊎_elim (λ is. inl (is_odd k is)) (λ is. inr (is_even k is)) 
 pub returns : goal.returns
 returns c =
     let a = c.args in
-    let vy = a.vy.now in
-    let vu = a.vu.now in
-    let vv = a.vv.now in
+    let vy = a.frame.y.now in
+    let vu = a.frame.u.now in
+    let vv = a.frame.v.now in
     let mid = c.v2_together-mid.ensures.lower_bound in record {
-      u = columns_row _ _ a.row a.left c.v2_together-mid.result a.right _ odd even (auxiliary_source (V2 a.wide) CU a.w vy vu vv) a.u.now mid.0 mid.1 either-kind
+      u = columns_row _ _ a.row a.left c.v2_together-mid.result a.right _ odd even (auxiliary_source (V2 a.wide) CU a.frame.sizes vy vu vv) a.u.now mid.0 mid.1 either-kind
           c.v2_together-mid.ensures.u (c.v2_odds.ensures.u vu vv) (c.v2_evens.ensures.u vy);
-      v = columns_row _ _ a.row a.left c.v2_together-mid.result a.right _ odd even (auxiliary_source (V2 a.wide) CV a.w vy vu vv) a.v.now mid.0 mid.1 either-kind
+      v = columns_row _ _ a.row a.left c.v2_together-mid.result a.right _ odd even (auxiliary_source (V2 a.wide) CV a.frame.sizes vy vu vv) a.v.now mid.0 mid.1 either-kind
           c.v2_together-mid.ensures.v (c.v2_odds.ensures.v vu vv) (c.v2_evens.ensures.v vy);
     }

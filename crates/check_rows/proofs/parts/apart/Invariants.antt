@@ -1,4 +1,3 @@
-use Prim.Native.Nat.{◌-◌, ◌≤◌}
 use mathlib.Core.Path.{◌≡◌}
 use mathlib.Core.Logic.{◌↔◌}
 use lib.ListN.{get_or}
@@ -6,7 +5,4 @@ use Rattle.check_rows.specs.Rows.{Right}
 use Rattle.check_rows.proofs.parts.apart.Given as goal
 
 abbrev pub invariant-loop-i : goal.invariant-loop-i
-invariant-loop-i l = (l.i ≤ l.n) × ((l.bits ≡ 0) ↔ Right l.row (λ c. get_or l.src c 0) l.i)
-
-abbrev pub decreases-loop-i : goal.decreases-loop-i
-decreases-loop-i l = l.n - l.i
+invariant-loop-i g l = (l.bits ≡ 0) ↔ Right l.row (λ c. get_or l.src c 0) l.i

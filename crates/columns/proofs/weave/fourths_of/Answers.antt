@@ -1,15 +1,9 @@
--- `columns::weave::fourths_of` meets its contract. The invariant: the first i bytes are painted.
+-- `columns::weave::fourths_of` meets its contract: the first n bytes are all of them.
 -- Assumes nothing.
-use native.Mathlib.Omega.{arith}
-use mathlib.Core.Path.{refl}
-use Rattle.lent.proofs.SoFar.{so_far_none, so_far_more, so_far_all}
+use mathlib.Core.Path.{refl, ◌∙◌}
+use borrow.Author.Tests.{lt-ltb}
+use Rattle.lent.proofs.Paint.{paint_ext}
 use Rattle.columns.proofs.weave.fourths_of.Goals as goal
 
-pub loop-i-init : goal.loop-i-init
-loop-i-init c = (refl, omega arith, so_far_none _ _)
-
-pub loop-i-preserved : goal.loop-i-preserved
-loop-i-preserved c = (refl, omega arith, so_far_more _ _ c.loop-i.i c.loop-i.invariant.2 (omega arith) refl)
-
 pub returns : goal.returns
-returns c = so_far_all _ _ c.loop-i.i c.loop-i.invariant.2 (omega arith)
+returns c = c.every_nth.ensures ∙ paint_ext _ _ _ _ _ (λ k h. lt-ltb k _ h) (λ k h e. refl)

@@ -1,23 +1,24 @@
 -- `columns::weave::weave` meets its contract. The invariant: the first i pairs are painted.
 -- Assumes nothing.
+use Prim.Native.Nat.{ℕ, ◌+◌, ◌*◌, ◌/◌}
 use native.Mathlib.Omega.{arith}
-use mathlib.Core.Path.{◌≡◌, refl}
-use lib.ListN.{length-set}
-use borrow.Author.Tests.{le-ltb}
-use Rattle.lent.proofs.Paint.{paint_none}
-use Rattle.columns.proofs.Turns.{weave_next}
+use mathlib.Core.Path.{◌≡◌, refl, sym, ap, ◌∙◌}
+use lib.ListN.{get_or}
+use Rattle.lent.proofs.SoFar.{so_far_none}
+use Rattle.lent.proofs.ByPart.{so_far_two}
+use Rattle.columns.proofs.Turns.{woven-even, woven-odd}
 use Rattle.columns.proofs.weave.weave.Goals as goal
 
 pub loop-i-init : goal.loop-i-init
-loop-i-init c = (omega arith, refl, paint_none _ _ _ (λ k h. le-ltb k 0 (omega arith)))
-
-pub bounds-dst-i-in-loop-i : goal.bounds-dst-i-in-loop-i
-bounds-dst-i-in-loop-i c = simp length-set (omega arith)
+loop-i-init c = so_far_none _ _
 
 pub loop-i-preserved : goal.loop-i-preserved
-loop-i-preserved c = (omega arith, simp length-set (omega arith), rw c.loop-i.invariant.2 (weave_next _ _ _ c.loop-i.i (omega arith)))
-
-pub returns : goal.returns
-returns c =
-    let done : c.loop-i.i ≡ c.args.n = omega arith in
-    rw done at c.loop-i.invariant.2
+loop-i-preserved c =
+    let i : ℕ = c.loop-i.i in
+    let evens = c.args.evens.now in
+    let odds = c.args.odds.now in
+    let half : i ≡ 2 * i / 2 = omega arith in
+    let half' : i ≡ (2 * i + 1) / 2 = omega arith in
+    so_far_two _ _ i c.loop-i.invariant (omega arith)
+    (ap (λ (k : ℕ). get_or evens k 0) half ∙ sym (woven-even evens odds (2 * i) (omega arith)))
+    (ap (λ (k : ℕ). get_or odds k 0) half' ∙ sym (woven-odd evens odds (2 * i + 1) (omega arith))) refl

@@ -41,6 +41,14 @@ loop-row-preserved c =
     c.average_pair.ensures refl in
     (omega arith, omega (arith, c.requires.rows_value), ap length done ∙ length_painted _ _ _ _ a.plane.now, done)
 
+pub returns-2 : goal.returns-2
+returns-2 c =
+    let a = c.args in
+    let even = c.loop-row.invariant.0 in
+    pairs_more a.stride a.rows a.plane.now c.requires.stride_in_bounds c.requires.stride_value c.loop-row.row _ _ even (omega (arith, c.requires.rows_value)) refl refl c.loop-row.invariant.3
+    c.average_pair.ensures refl
+    ∙ whole_all a.stride a.rows _ a.plane.now (c.loop-row.row + 2) (omega (arith, c.requires.rows_value))
+
 pub returns : goal.returns
 returns c =
     let a = c.args in

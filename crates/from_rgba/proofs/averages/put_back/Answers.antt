@@ -8,15 +8,15 @@ use Rattle.lent.proofs.ByPart.{within_none, within_next}
 use Rattle.from_rgba.proofs.averages.put_back.Goals as goal
 
 pub loop-i-init : goal.loop-i-init
-loop-i-init c = (omega arith, refl, within_none _ _ _)
+loop-i-init c = (refl, within_none _ _ _)
 
 pub loop-i-preserved : goal.loop-i-preserved
 loop-i-preserved c =
     let a = c.args in
     let place : c.loop-i.i ≡ a.at + c.loop-i.i - a.at = omega arith in
-    (omega arith, simp length-set (omega arith), rw c.loop-i.invariant.2 (within_next _ a.dst.now a.at c.loop-i.i _ (omega arith) (ap (λ (k : ℕ). get_or a.from.now k 0) place)))
+    (simp length-set (omega arith), rw c.loop-i.invariant.1 (within_next _ a.dst.now a.at c.loop-i.i _ (omega arith) (ap (λ (k : ℕ). get_or a.from.now k 0) place)))
 
 pub returns : goal.returns
 returns c =
     let done : c.loop-i.i ≡ c.args.n = omega arith in
-    rw done at c.loop-i.invariant.2
+    rw done at c.loop-i.invariant.1

@@ -8,6 +8,3 @@ use Rattle.from_rgba.proofs.edges.fill_rows.Given as goal
 
 abbrev pub invariant-loop-row : goal.invariant-loop-row
 invariant-loop-row l = (l.height ≤ l.row) × (length l.plane ≡ length l.initial.plane) × (l.plane ≡ painted l.stride l.rows (up_to (past_row l.height) l.row) (λ r c. sample l.initial.plane l.stride (l.height - 1) c) l.initial.plane)
-
-abbrev pub decreases-loop-row : goal.decreases-loop-row
-decreases-loop-row l = l.rows - l.row

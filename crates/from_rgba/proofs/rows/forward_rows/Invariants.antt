@@ -1,4 +1,3 @@
-use Prim.Native.Nat.{◌-◌}
 use Rattle.lent.specs.Sizes.{round_up}
 use Rattle.from_rgba.specs.Rows.{input_at}
 use Rattle.from_rgba.proofs.Converted.{RowsSoFar}
@@ -9,6 +8,3 @@ invariant-loop-row l =
     RowsSoFar l.stride (round_up 16 l.height) l.width l.height (λ r c. (input_at l.matrix l.rgba l.width r c).y) l.initial.y l.y l.row
     × RowsSoFar l.stride (round_up 16 l.height) l.width l.height (λ r c. (input_at l.matrix l.rgba l.width r c).u) l.initial.u l.u l.row
     × RowsSoFar l.stride (round_up 16 l.height) l.width l.height (λ r c. (input_at l.matrix l.rgba l.width r c).v) l.initial.v l.v l.row
-
-abbrev pub decreases-loop-row : goal.decreases-loop-row
-decreases-loop-row l = l.height - l.row

@@ -1,4 +1,3 @@
-use Prim.Native.Nat.{◌-◌}
 use mathlib.Core.Path.{◌≡◌}
 use mathlib.Core.Bool.{not}
 use lib.ListN.{length}
@@ -8,6 +7,3 @@ use Rattle.from_rgba.proofs.rows.pad_plane.Given as goal
 
 abbrev pub invariant-loop-row : goal.invariant-loop-row
 invariant-loop-row l = (length l.plane ≡ length l.initial.plane) × (l.plane ≡ painted l.stride l.rows (up_to (λ r c. not (inside l.width l.height r c)) l.row) (λ r c. l.value) l.initial.plane)
-
-abbrev pub decreases-loop-row : goal.decreases-loop-row
-decreases-loop-row l = l.rows - l.row

@@ -6,10 +6,10 @@ use Rattle.lent.proofs.SoFar.{so_far_none, so_far_more, so_far_all}
 use Rattle.from_rgba.proofs.rows.put_16.Goals as goal
 
 pub loop-i-init : goal.loop-i-init
-loop-i-init c = (omega arith, so_far_none _ _)
+loop-i-init c = so_far_none _ _
 
 pub loop-i-preserved : goal.loop-i-preserved
-loop-i-preserved c = (omega arith, so_far_more _ _ c.loop-i.i c.loop-i.invariant.1 (omega arith) refl)
+loop-i-preserved c = so_far_more _ _ c.loop-i.i c.loop-i.invariant (omega arith) refl
 
 pub returns : goal.returns
-returns c = so_far_all _ _ c.loop-i.i c.loop-i.invariant.1 (omega arith)
+returns c = so_far_all _ _ c.loop-i.i c.loop-i.invariant (omega arith)

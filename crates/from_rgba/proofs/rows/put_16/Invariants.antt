@@ -1,10 +1,6 @@
-use Prim.Native.Nat.{◌-◌, ◌≤◌}
 use lib.ListN.{get_or}
 use Rattle.lent.proofs.SoFar.{SoFar}
 use Rattle.from_rgba.proofs.rows.put_16.Given as goal
 
 abbrev pub invariant-loop-i : goal.invariant-loop-i
-invariant-loop-i l = (l.i ≤ 16) × SoFar (λ k. get_or l.from k 0) l.initial.dst l.dst l.i
-
-abbrev pub decreases-loop-i : goal.decreases-loop-i
-decreases-loop-i l = 16 - l.i
+invariant-loop-i l = SoFar (λ k. get_or l.from k 0) l.initial.dst l.dst l.i

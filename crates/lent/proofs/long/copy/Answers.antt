@@ -2,19 +2,13 @@
 -- Assumes nothing.
 use Prim.Native.Nat.{ℕ, ◌+◌}
 use native.Mathlib.Omega.{arith}
-use mathlib.Core.Path.{refl}
-use Rattle.lent.proofs.Copies.{front_more, front_all}
+use mathlib.Core.Path.{◌≡◌, subst}
+use Rattle.lent.proofs.Copies.{Front, front_more}
 use Rattle.lent.proofs.long.copy.Goals as goal
-
-pub loop-k-init : goal.loop-k-init
-loop-k-init c = (omega arith, (c.requires, refl))
 
 pub loop-k-preserved : goal.loop-k-preserved
 loop-k-preserved c =
-    let m = c.least-m.result in
-    let a = c.args in
+    let src = c.args.src.now in
     let k : ℕ = c.loop-k.k in
-    (omega arith, front_more a.src.now c.loop-k.dst k k (k + m) c.loop-k.invariant.1 (omega arith) (omega arith) (omega arith) c.copy_part.ensures)
-
-pub returns : goal.returns
-returns c = front_all c.args.src.now c.loop-k.k c.loop-k.invariant.1 (omega arith)
+    let whole : k + c.min.result ≡ k + 4096 = omega arith in
+    subst (Front src _) whole (front_more src c.loop-k.dst k k (k + c.min.result) c.loop-k.invariant (omega arith) (omega arith) (omega arith) c.copy_part.ensures)

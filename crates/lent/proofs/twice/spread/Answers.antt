@@ -1,9 +1,8 @@
 -- `lent::twice::spread` meets its contract: 16 places at once, or the pairs, and an odd last place of each row, which is one store more.
 -- Assumes nothing.
-use Prim.Native.Nat.{ℕ, ◌*◌, ◌/◌}
+use Prim.Native.Nat.{◌/◌}
 use native.Mathlib.Omega.{arith}
-use mathlib.Core.Path.{◌≡◌, refl}
-use lib.ListN.{length-set}
+use mathlib.Core.Path.{refl}
 use Rattle.lent.proofs.SpreadAt.{both_at_once, both_last}
 use Rattle.lent.proofs.twice.spread.Goals as goal
 
@@ -11,15 +10,6 @@ pub returns-then-wide-eq16 : goal.returns-then-wide-eq16
 returns-then-wide-eq16 c =
     let a = c.args in
     both_at_once a.from.now a.dst.now a.a a.b 16 8 a.wide c.if-wide-eq16.true (omega arith) c.put_16.ensures
-
-pub returns-then-end-wide : goal.returns-then-end-wide
-returns-then-end-wide c =
-    let wide : ℕ = c.args.wide in
-    let even : 2 * (wide / 2) ≡ wide = omega arith in
-    rw even at c.pairs.ensures
-
-pub bounds-dst-b : goal.bounds-dst-b
-bounds-dst-b c = simp length-set (omega arith)
 
 pub returns : goal.returns
 returns c =

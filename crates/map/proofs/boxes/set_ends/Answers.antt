@@ -9,11 +9,11 @@ use Rattle.lent.proofs.ByPart.{so_far_part_over}
 use Rattle.map.proofs.boxes.set_ends.Goals as goal
 
 pub returns : goal.returns
-returns c =
+returns g c =
     let a = c.args in
     let n : ℕ = length a.dst.now in
-    let back = so_far_all _ _ a.size (omega arith, c.set_front-2.ensures) (omega arith) in
+    let back = so_far_all _ _ g.row.N (omega arith, c.set_front-2.ensures) (omega arith) in
     so_far_all _ _ n
-    (so_far_part_over _ a.dst.now a.size (n - a.size) n (λ k. a.value) (omega arith) (omega arith) (omega arith)
+    (so_far_part_over _ a.dst.now g.row.N (n - g.row.N) n (λ k. a.value) (omega arith) (omega arith) (omega arith)
     (omega arith, c.set_front.ensures) back (λ j h. refl))
     (omega arith)

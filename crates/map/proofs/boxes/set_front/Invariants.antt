@@ -1,9 +1,5 @@
-use Prim.Native.Nat.{◌≤◌, ◌-◌}
 use Rattle.lent.proofs.SoFar.{SoFar}
 use Rattle.map.proofs.boxes.set_front.Given as goal
 
 abbrev pub invariant-loop-i : goal.invariant-loop-i
-invariant-loop-i l = (l.i ≤ l.n) × SoFar (λ k. l.value) l.initial.dst l.dst l.i
-
-abbrev pub decreases-loop-i : goal.decreases-loop-i
-decreases-loop-i l = l.n - l.i
+invariant-loop-i l = SoFar (λ k. l.value) l.initial.dst l.dst l.i

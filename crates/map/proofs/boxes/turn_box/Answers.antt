@@ -1,37 +1,18 @@
 -- `map::boxes::turn_box` meets its contract. The invariant: the map is painted by what the box takes in the rows below `row`, from the map
 -- as it was before the loop; row `row` is still as it was then.
 -- Assumes nothing.
-use Prim.Native.Nat.{ℕ, ◌+◌, ◌*◌, ◌<◌, ◌≤◌}
+use Prim.Native.Nat.{ℕ, ◌<◌, ◌≤◌}
 use native.Mathlib.Omega.{arith}
 use mathlib.Core.Path.{refl, ap, ◌∙◌}
-use lib.ListN.{length}
 use Rattle.lent.specs.Paint.{painted}
 use Rattle.rects.specs.Rects.{in_area}
-use Rattle.map.specs.Map.{across_of, down_of, turned_at}
-use Rattle.map.proofs.BoxRows.{map_room, box_room, box_line, box_rows_none, box_rows_more, box_rows_all, turned_from}
+use Rattle.map.specs.Map.{down_of, turned_at}
+use Rattle.map.proofs.BoxRows.{map_room, box_room, box_rows_none, box_rows_more, box_rows_all, turned_from}
 use Rattle.map.proofs.boxes.turn_box.Goals.{In-loop-row}
 use Rattle.map.proofs.boxes.turn_box.Goals as goal
 
--- the row lies in the map
-line : (t : In-loop-row) → let w = t.across-wide.result in let a = t.args in
-    t.loop-row.row * w + across_of a.size ≤ length a.map.now
-line t =
-    box_line t.args.size _ t.args.area _ t.across-wide.ensures.0 t.requires t.loop-row.row (omega arith)
-
 pub loop-row-init : goal.loop-row-init
 loop-row-init c = box_rows_none _ _ _ _
-
-pub overflow_mul-line : goal.overflow_mul-line
-overflow_mul-line c = omega (arith, line (goal.at.overflow_mul-line c).In-loop-row)
-
-pub overflow_add-line : goal.overflow_add-line
-overflow_add-line c = omega (arith, line (goal.at.overflow_add-line c).In-loop-row)
-
-pub overflow_add-line-in-loop-row : goal.overflow_add-line-in-loop-row
-overflow_add-line-in-loop-row c = omega (arith, line (goal.at.overflow_add-line-in-loop-row c).In-loop-row)
-
-pub slice_bounds-turn-end : goal.slice_bounds-turn-end
-slice_bounds-turn-end c = omega (arith, line (goal.at.slice_bounds-turn-end c).In-loop-row)
 
 pub loop-row-preserved : goal.loop-row-preserved
 loop-row-preserved c =
@@ -41,9 +22,6 @@ loop-row-preserved c =
     let inside : c.args.area.right ≤ c.across-wide.result = omega arith in
     box_rows_more _ _ _ _ row _ _ _ c.loop-row.invariant lt room c.requires.ordered inside refl refl
     (λ j h. turned_from _ _ _ row _ _ j c.loop-row.invariant lt room inside refl refl h) c.turn.ensures refl
-
-pub shape_of-map : goal.shape_of-map
-shape_of-map c = c.loop-row.invariant.1
 
 pub returns : goal.returns
 returns c =

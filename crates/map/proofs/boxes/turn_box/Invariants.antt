@@ -1,10 +1,6 @@
-use Prim.Native.Nat.{◌-◌}
 use Rattle.map.specs.Map.{turned_at}
 use Rattle.map.proofs.BoxRows.{BoxRows}
 use Rattle.map.proofs.boxes.turn_box.Given as goal
 
 abbrev pub invariant-loop-row : goal.invariant-loop-row
 invariant-loop-row l = BoxRows l.wide l.area (turned_at l.initial.map l.wide) l.initial.map l.map l.row
-
-abbrev pub decreases-loop-row : goal.decreases-loop-row
-decreases-loop-row l = l.area.bottom - l.row

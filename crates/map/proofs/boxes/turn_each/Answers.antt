@@ -1,16 +1,21 @@
--- `map::boxes::turn_each` meets its contract. The invariant: the first k bytes are turned, the others are as they were.
+-- `map::boxes::turn_each` meets its contract. The invariant: the bytes before the loop's place are turned, the others are as they were.
 -- Assumes nothing.
+use Prim.Native.Nat.{ℕ}
 use native.Mathlib.Omega.{arith}
-use lib.ListN.{length-set}
-use Rattle.lent.proofs.SoFar.{so_far_none, so_far_all}
-use Rattle.map.proofs.Turned.{turn_next}
+use mathlib.Core.Path.{ap, ◌∙◌}
+use Rattle.lent.proofs.SoFar.{so_far_none, so_far_more, so_far_all}
+use Rattle.lent.proofs.ByPart.{so_far_past}
+use Rattle.map.specs.Map.{turned_of}
 use Rattle.map.proofs.boxes.turn_each.Goals as goal
 
-pub loop-k-init : goal.loop-k-init
-loop-k-init c = (omega arith, so_far_none _ _)
+pub loop-b-init : goal.loop-b-init
+loop-b-init c = so_far_none _ _
 
-pub loop-k-preserved : goal.loop-k-preserved
-loop-k-preserved c = (omega arith, (simp length-set (omega arith), turn_next c.args.dst.now c.loop-k.dst c.loop-k.k c.turned.result (omega arith) c.loop-k.invariant.1.1 c.turned.ensures))
+pub loop-b-preserved : goal.loop-b-preserved
+loop-b-preserved c =
+    let k : ℕ = c.loop-b.b-index in
+    let before = c.loop-b.invariant in
+    so_far_more _ _ k before (omega arith) (c.turned.ensures ∙ ap turned_of (so_far_past _ _ k k before (omega arith) (omega arith)))
 
 pub returns : goal.returns
-returns c = so_far_all _ _ c.loop-k.k c.loop-k.invariant.1 (omega arith)
+returns c = so_far_all _ _ c.loop-b.b-index c.loop-b.invariant (omega arith)

@@ -1,11 +1,7 @@
-use Prim.Native.Nat.{◌≤◌, ◌-◌}
 use lib.ListN.{get_or}
 use Rattle.lent.proofs.SoFar.{SoFar}
 use Rattle.map.specs.Map.{turned_of}
 use Rattle.map.proofs.boxes.turned_front.Given as goal
 
 abbrev pub invariant-loop-i : goal.invariant-loop-i
-invariant-loop-i l = (l.i ≤ l.n) × SoFar (λ k. turned_of (get_or l.src k 0)) l.initial.dst l.dst l.i
-
-abbrev pub decreases-loop-i : goal.decreases-loop-i
-decreases-loop-i l = l.n - l.i
+invariant-loop-i l = SoFar (λ k. turned_of (get_or l.src k 0)) l.initial.dst l.dst l.i

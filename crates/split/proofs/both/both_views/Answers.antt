@@ -38,24 +38,6 @@ auxiliary_view-requires c =
     let whole = auxiliary_asked c.stride-stride.ensures.0 c.view_width-wide.ensures c.rows-rows.ensures.0 c.split_layout-layout.ensures
     (c.requires.macroblocks_fit_2, (c.requires.macroblocks_fit_3, (wide_enough c.args.way c.args.size, (refl, c.requires.room_2)))) in record { macroblocks_fit = whole.0; macroblocks_fit_2 = whole.1.0; wide_enough = whole.1.1.0; wide_value = whole.1.1.1.0; room = whole.1.1.1.1 }
 
-pub shape_of-main_y : goal.shape_of-main_y
-shape_of-main_y c = c.main_view.auto.main_y
-
-pub shape_of-main_u : goal.shape_of-main_u
-shape_of-main_u c = c.main_view.auto.main_u
-
-pub shape_of-main_v : goal.shape_of-main_v
-shape_of-main_v c = c.main_view.auto.main_v
-
-pub shape_of-auxiliary_y : goal.shape_of-auxiliary_y
-shape_of-auxiliary_y c = c.auxiliary_view.auto.auxiliary_y
-
-pub shape_of-auxiliary_u : goal.shape_of-auxiliary_u
-shape_of-auxiliary_u c = c.auxiliary_view.auto.auxiliary_u
-
-pub shape_of-auxiliary_v : goal.shape_of-auxiliary_v
-shape_of-auxiliary_v c = c.auxiliary_view.auto.auxiliary_v
-
 pub returns : goal.returns
 returns c =
     let e = c.stride-stride.ensures.0 in

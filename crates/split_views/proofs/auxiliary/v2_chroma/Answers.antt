@@ -1,48 +1,28 @@
 -- `split_views::auxiliary::v2_chroma` meets its contract. The invariant: the rows below `row` are written.
 -- Assumes nothing.
-use Prim.Native.Nat.{ℕ, ◌+◌, ◌*◌, ◌/◌, ◌<◌, ◌≤◌}
+use Prim.Native.Nat.{◌+◌, ◌*◌, ◌/◌}
 use native.Mathlib.Omega.{arith}
-use mathlib.Core.Path.{refl, ap, ◌∙◌}
-use lib.ListN.{length}
+use mathlib.Core.Path.{refl, ◌∙◌}
 use Rattle.lent.proofs.Cells.{row_in}
-use Rattle.lent.proofs.Painted.{length_painted}
 use Rattle.lent.proofs.Rows.{whole_none, whole_more, whole_all}
-use Rattle.split_views.proofs.auxiliary.v2_chroma.Goals.{Start}
 use Rattle.split_views.proofs.auxiliary.v2_chroma.Goals as goal
 
--- the row that is written is within the output
-room : (s : Start) (row : ℕ) → row < (s.args.rows / 2) → row * (s.args.wide / 2) + (s.args.wide / 2) ≤ length s.args.out.now
-room s row lt = omega (arith, row_in (s.args.wide / 2) (s.args.rows / 2) row lt, s.requires.wide_in_bounds)
-
 pub loop-row-init : goal.loop-row-init
-loop-row-init c = (omega arith, refl, whole_none _ _ _ _)
+loop-row-init c = whole_none _ _ _ _
 
-pub overflow_mul-line : goal.overflow_mul-line
-overflow_mul-line c = omega (arith, room (goal.at.overflow_mul-line c).Start c.loop-row.row (omega arith))
-
-pub overflow_add-line : goal.overflow_add-line
-overflow_add-line c = omega (arith, room (goal.at.overflow_add-line c).Start c.loop-row.row (omega arith))
-
-pub slice_bounds-v2_chroma_row-end : goal.slice_bounds-v2_chroma_row-end
-slice_bounds-v2_chroma_row-end c = omega (arith, room (goal.at.slice_bounds-v2_chroma_row-end c).Start c.loop-row.row (omega arith))
-
-pub v2_chroma_row-requires : goal.v2_chroma_row-requires
-v2_chroma_row-requires c =
+pub v2_chroma_row-requires-clause-stride_in_bounds : goal.v2_chroma_row-requires-clause-stride_in_bounds
+v2_chroma_row-requires-clause-stride_in_bounds c =
     let a = c.args in
-    let inside = row_in a.stride a.rows (2 * c.loop-row.row + 1) (omega (arith, c.requires.macroblocks_fit.high)) in
-    record {
-      out_value = omega (arith, c.requires.wide_enough.fours);
-      wide_enough = c.requires.wide_enough;
-      stride_value = c.requires.macroblocks_fit.wide;
-      stride_in_bounds = omega (arith, inside, c.requires.macroblocks_fit.fits);
-      stride_in_bounds_2 = omega (arith, inside, c.requires.macroblocks_fit_2.fits);
-      first_bound = c.requires.first_bound;
-    }
+    omega (arith, row_in a.stride a.rows (2 * c.loop-row.row + 1) (omega (arith, c.requires.macroblocks_fit.high)), c.requires.macroblocks_fit.fits)
+
+pub v2_chroma_row-requires-clause-stride_in_bounds_2 : goal.v2_chroma_row-requires-clause-stride_in_bounds_2
+v2_chroma_row-requires-clause-stride_in_bounds_2 c =
+    let a = c.args in
+    omega (arith, row_in a.stride a.rows (2 * c.loop-row.row + 1) (omega (arith, c.requires.macroblocks_fit.high)), c.requires.macroblocks_fit_2.fits)
 
 pub loop-row-preserved : goal.loop-row-preserved
 loop-row-preserved c =
-    let next = whole_more (c.args.wide / 2) (c.args.rows / 2) _ c.args.out.now c.loop-row.row (omega arith) c.requires.wide_in_bounds c.loop-row.invariant.2 c.v2_chroma_row.ensures refl in
-    (omega arith, ap length next ∙ length_painted _ _ _ _ _, next)
+    whole_more (c.args.wide / 2) (c.args.rows / 2) _ c.args.out.now c.loop-row.row (omega arith) c.requires.wide_in_bounds c.loop-row.invariant c.v2_chroma_row.ensures refl
 
 pub returns : goal.returns
-returns c = c.loop-row.invariant.2 ∙ whole_all _ _ _ _ c.loop-row.row (omega arith)
+returns c = c.loop-row.invariant ∙ whole_all _ _ _ _ c.loop-row.row (omega arith)

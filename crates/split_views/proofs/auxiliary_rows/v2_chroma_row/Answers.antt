@@ -15,7 +15,7 @@ returns c =
     let a = c.args in
     let held = v2_chroma_half a.stride a.u.now a.v.now a.wide in
     let four = c.requires.wide_enough.fours in
-    two_parts a.out.now c.fourths_wide.new.out c.fourths_wide-2.new.out (a.wide / 4) (a.wide / 2) _ _ (v2_chroma_sample a.wide a.stride a.u.now a.v.now a.first a.row) (omega (arith, c.requires.out_value)) (omega arith)
-    c.fourths_wide.ensures c.fourths_wide-2.ensures
+    two_parts a.out.now c.picked_wide.new.out c.picked_wide-2.new.out (a.wide / 4) (a.wide / 2) _ _ (v2_chroma_sample a.wide a.stride a.u.now a.v.now a.first a.row) (omega (arith, c.requires.out_value)) (omega arith)
+    c.picked_wide.ensures c.picked_wide-2.ensures
     (λ j h. held CU a.first a.row j h ∙ ap (v2_chroma_sample a.wide a.stride a.u.now a.v.now a.first a.row) (zero-add j))
     (λ j h. held CV a.first a.row j (omega (arith, h, four)))

@@ -17,7 +17,7 @@ returns c =
     let a = c.args in
     let auxiliary = v2_luma_half a.stride a.u.now a.v.now a.wide in
     let four = c.requires.wide_enough.fours in
-    two_parts a.out.now c.seconds_wide.new.out c.seconds_wide-2.new.out (a.wide / 2) a.wide _ _ (auxiliary_sample (V2 a.wide) a.stride a.u.now a.v.now PY a.row) c.requires.out_len (omega arith)
-    c.seconds_wide.ensures c.seconds_wide-2.ensures
+    two_parts a.out.now c.picked_wide.new.out c.picked_wide-2.new.out (a.wide / 2) a.wide _ _ (auxiliary_sample (V2 a.wide) a.stride a.u.now a.v.now PY a.row) c.requires.out_len (omega arith)
+    c.picked_wide.ensures c.picked_wide-2.ensures
     (λ j h. auxiliary CU a.row j h ∙ ap (auxiliary_sample (V2 a.wide) a.stride a.u.now a.v.now PY a.row) (zero-add j))
     (λ j h. auxiliary CV a.row j (omega (arith, h, four)))

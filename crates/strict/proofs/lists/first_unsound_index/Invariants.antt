@@ -1,4 +1,4 @@
-use Prim.Native.Nat.{◌-◌, ◌/◌, ◌≤◌}
+use Prim.Native.Nat.{◌/◌}
 use mathlib.Core.Path.{◌≡◌}
 use lib.ListN.{length}
 use Rattle.lent.proofs.First.{Passed}
@@ -6,7 +6,4 @@ use Rattle.strict.specs.Sound.{unsound_at}
 use Rattle.strict.proofs.lists.first_unsound_index.Given as goal
 
 abbrev pub invariant-loop-i : goal.invariant-loop-i
-invariant-loop-i l = (l.i ≤ l.count) × (l.count ≡ length l.rects / 4) × Passed (unsound_at l.size l.rects) l.i
-
-abbrev pub decreases-loop-i : goal.decreases-loop-i
-decreases-loop-i l = l.count - l.i
+invariant-loop-i l = (l.count ≡ length l.rects / 4) × Passed (unsound_at l.size l.rects) l.i

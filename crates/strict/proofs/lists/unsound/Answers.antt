@@ -1,13 +1,12 @@
--- `strict::lists::unsound` meets its contract: the search stops below the end exactly when some rectangle is unsound.
+-- `strict::lists::unsound` meets its contract: an index is found exactly when some rectangle is unsound.
 -- Assumes nothing.
-use Prim.Native.Nat.{ℕ, ◌/◌}
-use mathlib.Core.Path.{ap, ◌∙◌}
-use lib.Dec.{ltb}
-use lib.ListN.{length}
+use mathlib.Core.Path.{◌∙◌}
 use Rattle.strict.proofs.Faults.{unsound_found}
+use Rattle.strict.proofs.Searched.{index_found}
 use Rattle.strict.proofs.lists.unsound.Goals as goal
 
 pub returns : goal.returns
 returns c =
     let a = c.args in
-    ap (λ (k : ℕ). ltb k (length a.rects.now / 4)) c.first_unsound_index.ensures ∙ unsound_found a.size a.rects.now
+    let found = c.first_unsound_index.ensures in
+    c.is_some.ensures ∙ index_found _ _ found.first found.inside ∙ unsound_found a.size a.rects.now

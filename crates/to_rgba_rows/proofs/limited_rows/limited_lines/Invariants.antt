@@ -1,4 +1,4 @@
-use Prim.Native.Nat.{◌+◌, ◌*◌, ◌-◌}
+use Prim.Native.Nat.{◌+◌, ◌*◌}
 use mathlib.Core.Path.{◌≡◌}
 use lib.ListN.{length}
 use Rattle.colour.specs.Limited.{limited_reverse_of}
@@ -11,6 +11,3 @@ abbrev pub invariant-loop-l : goal.invariant-loop-l
 invariant-loop-l t =
     (length t.out ≡ length t.initial.out)
     × (t.out ≡ painted (4 * t.n) t.lines (up_to whole t.l) (λ q. bytes (view_pixel_at limited_reverse_of t.luma t.chroma t.y t.u t.v (t.row + q))) t.initial.out)
-
-abbrev pub decreases-loop-l : goal.decreases-loop-l
-decreases-loop-l t = t.lines - t.l

@@ -18,7 +18,7 @@ abbrev limitedAt : List ℕ → List ℕ → ℕ → ℕ → ℕ → List ℕ
 limitedAt u v c y j = limited_reverse_of y (get_or u (c + j) 0) (get_or v (c + j) 0)
 
 pub loop-i-init : goal.loop-i-init
-loop-i-init c = (search rules, refl, done_none _ _)
+loop-i-init c = (refl, done_none _ _)
 
 pub loop-i-preserved : goal.loop-i-preserved
 unfolding limited_reverse_of
@@ -26,8 +26,7 @@ loop-i-preserved c =
     let a = c.args in
     let i = c.loop-i.i in (
       search rules,
-      search rules,
-      pair_step (limitedAt a.u.now a.v.now a.c) (λ y j. refl) a.y.now a.at a.out.now i c.two-w.ensures c.loop-i.invariant.2
+      pair_step (limitedAt a.u.now a.v.now a.c) (λ y j. refl) a.y.now a.at a.out.now i c.two-w.ensures c.loop-i.invariant.1
           c.put_pixel.ensures c.reverse.ensures c.put_pixel-in-loop-i.ensures c.reverse-in-loop-i.ensures (omega arith),
     )
 
@@ -37,9 +36,9 @@ returns-then-end-n c =
     let a = c.args in
     let pairs = a.n / 2 in
     placed_step (limitedAt a.u.now a.v.now a.c) (λ y j. refl) a.y.now a.at a.out.now half_of (2 * pairs) (2 * pairs + 1)
-    refl (omega arith) (done_at _ _ _ (2 * pairs) c.loop-i.invariant.2 (omega arith)) c.put_pixel-then-end-n.ensures c.reverse-then-end-n.ensures
+    refl (omega arith) (done_at _ _ _ (2 * pairs) c.loop-i.invariant.1 (omega arith)) c.put_pixel-then-end-n.ensures c.reverse-then-end-n.ensures
     (omega (arith, c.if-end-n.true)) refl
     ∙ done_all _ _ (2 * pairs + 1) (omega arith)
 
 pub returns-else-end-n : goal.returns-else-end-n
-returns-else-end-n c = c.loop-i.invariant.2 ∙ done_all _ _ (2 * c.loop-i.i) (omega arith)
+returns-else-end-n c = c.loop-i.invariant.1 ∙ done_all _ _ (2 * c.loop-i.i) (omega arith)

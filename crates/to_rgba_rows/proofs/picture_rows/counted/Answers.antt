@@ -7,22 +7,21 @@ use lib.ListN.{get_or}
 use Rattle.lent.proofs.Counts.{total_none, total-one}
 use Rattle.to_rgba_rows.proofs.picture_rows.counted.Goals as goal
 
-pub loop-i-init : goal.loop-i-init
-loop-i-init c = (omega arith, omega arith, total_none _)
+pub loop-mark-init : goal.loop-mark-init
+loop-mark-init c = (omega arith, total_none _)
 
 pub overflow_add-sum : goal.overflow_add-sum
-overflow_add-sum c = omega (arith, c.requires.low c.loop-i.i c.loop-i-test.true)
+overflow_add-sum c = omega (arith, c.requires.low c.loop-mark.mark-index (omega arith))
 
-pub loop-i-preserved : goal.loop-i-preserved
-loop-i-preserved c =
-    let i = c.loop-i.i in (
-      omega arith,
-      omega (arith, c.requires.low i c.loop-i-test.true),
-      ap (λ (x : ℕ). x + get_or c.args.marks.now i 0) c.loop-i.invariant.2 ∙ total-one i _,
+pub loop-mark-preserved : goal.loop-mark-preserved
+loop-mark-preserved c =
+    let i = c.loop-mark.mark-index in (
+      omega (arith, c.requires.low i (omega arith)),
+      ap (λ (x : ℕ). x + get_or c.args.marks.now i 0) c.loop-mark.invariant.1 ∙ total-one i _,
     )
 
 pub returns : goal.returns
 returns c =
-    let all : c.loop-i.i ≡ 32 = omega arith in
-    let is = rw all at c.loop-i.invariant.2 in
+    let all : c.loop-mark.mark-index ≡ 32 = omega arith in
+    let is = rw all at c.loop-mark.invariant.1 in
     (ap (λ (x : ℕ). x % 256) is, ap (λ (x : ℕ). x / 256) is)

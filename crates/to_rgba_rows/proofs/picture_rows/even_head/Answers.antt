@@ -14,10 +14,7 @@ pub part-requires : goal.part-requires
 part-requires c =
     let a = c.args in
     let exact = length-take-le 4 a.out.now (omega arith) in
-    record {
-      part_fits = record { exact = exact; few = search rules; y_has = omega arith; u_has = omega arith; v_has = omega arith };
-      tables = search rules;
-    }
+    record { exact = exact; few = search rules; y_has = omega arith; u_has = omega arith; v_has = omega arith }
 
 pub returns-then-left-eq1 : goal.returns-then-left-eq1
 returns-then-left-eq1 c =

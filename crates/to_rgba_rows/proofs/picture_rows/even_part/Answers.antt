@@ -20,20 +20,17 @@ pub part-requires : goal.part-requires
 part-requires c =
     let p = (sym (ap length c.smoothed.ensures.p ∙ length-paint _ _ _)) in
     let q = slice_bounds-part-end-2 c in
-    record {
-      part_fits = record { exact = search rules; few = search rules; y_has = search rules; u_has = omega arith; v_has = omega arith };
-      tables = search rules;
-    }
+    record { exact = search rules; few = search rules; y_has = search rules; u_has = omega arith; v_has = omega arith }
 
 pub counted-requires : goal.counted-requires
 counted-requires c =
     let a = c.args in
-    marks_fit a.u.now a.v.now a.at a.below a.n c.requires.even_part_fits.few c.smoothed.ensures.marks
+    marks_fit a.u.now a.v.now a.at a.below a.n c.requires.few c.smoothed.ensures.marks
 
 pub returns : goal.returns
 returns c =
     let a = c.args in
-    let fits = c.requires.even_part_fits in
+    let fits = c.requires in
     let sum = marks_filtered a.u.now a.v.now a.at a.below a.n fits.few c.smoothed.ensures.marks in record {
       out_after = smoothed_part a.y.now a.u.now a.v.now _ a.out.now a.at a.below a.n (2 * ((a.n + 1) / 2))
           fits.exact (omega arith) (omega (arith, fits.few)) c.smoothed.ensures.p c.smoothed.ensures.q c.part.ensures;

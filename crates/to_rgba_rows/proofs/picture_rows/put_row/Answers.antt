@@ -12,17 +12,16 @@ use Rattle.to_rgba_rows.proofs.picture_rows.put_row.Goals as goal
 pub even_row-requires : goal.even_row-requires
 even_row-requires c =
     let a = c.args in
-    let fits = two_rows a.stride a.rows c.least-even.result (omega arith) in
+    let fits = two_rows a.stride a.rows c.min-even.result (omega arith) in
     record {
       row_fits = record { exact = search rules; inside = search rules; y_fits = omega arith; u_fits = omega arith; v_fits = omega arith };
       stride_value = search rules;
-      tables = search rules;
     }
 
 pub returns-then-row-eq0 : goal.returns-then-row-eq0
 returns-then-row-eq0 c =
     let a = c.args in
-    let same : c.least-even.result ≡ a.row = omega arith in
+    let same : c.min-even.result ≡ a.row = omega arith in
     record {
       out_after = rw same at (c.even_row.ensures.out_after (omega arith));
       value = rw same at (c.even_row.ensures.value (omega arith));
@@ -32,10 +31,7 @@ pub odd_row-requires : goal.odd_row-requires
 odd_row-requires c =
     let a = c.args in
     let fits = row_in a.stride a.rows a.row (omega arith) in
-    record {
-      row_fits = record { exact = search rules; inside = search rules; y_fits = omega arith; u_fits = omega arith; v_fits = omega arith };
-      tables = search rules;
-    }
+    record { exact = search rules; inside = search rules; y_fits = omega arith; u_fits = omega arith; v_fits = omega arith }
 
 pub returns : goal.returns
 returns c =

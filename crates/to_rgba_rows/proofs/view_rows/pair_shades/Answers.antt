@@ -12,7 +12,7 @@ use Rattle.to_rgba_rows.proofs.Shading.{placed_step, pair_step, shade_at, shade_
 use Rattle.to_rgba_rows.proofs.view_rows.pair_shades.Goals as goal
 
 pub loop-i-init : goal.loop-i-init
-loop-i-init c = (search rules, refl, done_none _ _)
+loop-i-init c = (refl, done_none _ _)
 
 pub shade-requires : goal.shade-requires
 shade-requires c = shade_asks c.requires.small c.loop-i.i (omega arith)
@@ -26,8 +26,7 @@ loop-i-preserved c =
     let a = c.args in
     let i = c.loop-i.i in (
       search rules,
-      search rules,
-      pair_step (shade_at a.r.now a.g.now a.b.now) (λ y j. refl) a.y.now a.at a.out.now i c.two-w.ensures c.loop-i.invariant.2
+      pair_step (shade_at a.r.now a.g.now a.b.now) (λ y j. refl) a.y.now a.at a.out.now i c.two-w.ensures c.loop-i.invariant.1
           c.put_pixel.ensures (shade_kept c.requires.small _ i (omega arith) c.shade.ensures)
           c.put_pixel-in-loop-i.ensures (shade_kept c.requires.small _ i (omega arith) c.shade-in-loop-i.ensures) (omega arith),
     )
@@ -41,9 +40,9 @@ returns-then-end-m c =
     let a = c.args in
     let pairs = a.m / 2 in
     placed_step (shade_at a.r.now a.g.now a.b.now) (λ y j. refl) a.y.now a.at a.out.now half_of (2 * pairs) (2 * pairs + 1)
-    refl (omega arith) (done_at _ _ _ (2 * pairs) c.loop-i.invariant.2 (omega arith)) c.put_pixel-then-end-m.ensures
+    refl (omega arith) (done_at _ _ _ (2 * pairs) c.loop-i.invariant.1 (omega arith)) c.put_pixel-then-end-m.ensures
     (shade_kept c.requires.small _ pairs (omega (arith, c.if-end-m.true)) c.shade-then-end-m.ensures) (omega (arith, c.if-end-m.true)) refl
     ∙ done_all _ _ (2 * pairs + 1) (omega arith)
 
 pub returns-else-end-m : goal.returns-else-end-m
-returns-else-end-m c = c.loop-i.invariant.2 ∙ done_all _ _ (2 * c.loop-i.i) (omega arith)
+returns-else-end-m c = c.loop-i.invariant.1 ∙ done_all _ _ (2 * c.loop-i.i) (omega arith)

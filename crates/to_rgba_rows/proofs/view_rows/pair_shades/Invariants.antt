@@ -1,4 +1,4 @@
-use Prim.Native.Nat.{◌*◌, ◌-◌, ◌≤◌}
+use Prim.Native.Nat.{◌*◌}
 use mathlib.Core.Path.{◌≡◌}
 use lib.ListN.{length}
 use Rattle.lent.specs.Pixels.{done}
@@ -6,7 +6,4 @@ use Rattle.to_rgba_rows.specs.Rules.{shades_from, half_of}
 use Rattle.to_rgba_rows.proofs.view_rows.pair_shades.Given as goal
 
 abbrev pub invariant-loop-i : goal.invariant-loop-i
-invariant-loop-i l = (l.i ≤ l.pairs) × (length l.out ≡ length l.initial.out) × (l.out ≡ done (shades_from half_of l.y l.at l.r l.g l.b) (2 * l.i) l.initial.out)
-
-abbrev pub decreases-loop-i : goal.decreases-loop-i
-decreases-loop-i l = l.pairs - l.i
+invariant-loop-i l = (length l.out ≡ length l.initial.out) × (l.out ≡ done (shades_from half_of l.y l.at l.r l.g l.b) (2 * l.i) l.initial.out)

@@ -11,6 +11,3 @@ invariant-loop-l t =
     (length t.out ≡ length t.initial.out)
     × (t.out ≡ painted (4 * t.n) t.lines (up_to (λ q. within (4 * t.k) (4 * (t.k + t.m))) t.l)
     (λ q. bytes (λ i. shades_from half_of t.y (t.at + q * t.luma + t.k) t.r t.g t.b (i - t.k))) t.initial.out)
-
-abbrev pub decreases-loop-l : goal.decreases-loop-l
-decreases-loop-l t = t.lines - t.l

@@ -12,15 +12,14 @@ pub shares-requires : goal.shares-requires
 shares-requires c =
     record {
       r_len = search rules;
-      n_bound = (omega arith, c.requires.view_part_fits.u_has, c.requires.view_part_fits.v_has);
-      tables = c.requires.tables;
+      n_bound = (omega arith, c.requires.u_has, c.requires.v_has);
     }
 
 pub shade_lines-requires : goal.shade_lines-requires
 shade_lines-requires c =
     let a = c.args in
     record {
-      lines_fit = c.requires.view_part_fits.fits;
+      lines_fit = c.requires.fits;
       small = shares_small a.u.now a.v.now a.c (c.shares.ensures.r, (c.shares.ensures.g, c.shares.ensures.b));
     }
 

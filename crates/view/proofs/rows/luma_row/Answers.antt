@@ -5,7 +5,7 @@ use Rattle.view.proofs.RowLaws.{row_asks, row_is}
 use Rattle.view.proofs.rows.luma_row.Goals as goal
 
 pub row_part-requires : goal.row_part-requires
-row_part-requires c = row_asks c.view_number-n.ensures c.luma.ensures _ (luma_fits _ _ _ _)
+row_part-requires c = row_asks c.check.ensures c.luma.ensures _ (luma_fits _ _ _ _)
 
 pub returns : goal.returns
-returns c = row_is c.view_number-n.ensures c.luma.ensures _ _ _ c.row_part.ensures
+returns c = row_is c.check.ensures c.luma.ensures _ _ _ c.row_part.ensures

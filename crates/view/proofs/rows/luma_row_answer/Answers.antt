@@ -5,7 +5,7 @@ use Rattle.view.proofs.RowLaws.{row_asks, answer_is}
 use Rattle.view.proofs.rows.luma_row_answer.Goals as goal
 
 pub row_answer-requires : goal.row_answer-requires
-row_answer-requires c = row_asks c.view_number-n.ensures c.luma.ensures _ (luma_fits _ _ _ _)
+row_answer-requires c = row_asks c.check.ensures c.luma.ensures _ (luma_fits _ _ _ _)
 
 pub returns : goal.returns
-returns c = answer_is c.view_number-n.ensures c.luma.ensures _ _ c.row_answer.ensures
+returns c = answer_is c.check.ensures c.luma.ensures _ _ c.row_answer.ensures

@@ -12,15 +12,15 @@ use Rattle.view.proofs.rows.row_part.Goals.{After-struct_known-1}
 use Rattle.view.proofs.rows.row_part.Goals as goal
 
 -- the row that was found ends in the plane
-within : (c : After-struct_known-1) → (c.in-At.at + c.args.p.stride ≤ length c.args.plane.now)
+within : (c : After-struct_known-1) → (c.in-Some.at + c.args.p.stride ≤ length c.args.plane.now)
     × (c.args.p.width ≤ c.args.p.stride)
 within c =
-    found_fits c.args.n c.args.p _ c.args.row c.requires c.find_row-start.ensures c.in-At.is
+    found_fits _ c.args.p _ c.args.row c.requires c.find_row.ensures c.in-Some.is
 
 pub returns-in_default : goal.returns-in_default
 returns-in_default c =
     let a = c.args in
-    let e = sym (ap values_of c.in_default.is) ∙ c.find_row-start.ensures in
+    let e = sym (ap values_of c.in_default.is) ∙ c.find_row.ensures in
     record {
       block = refl;
       offset = sym (zero-add a.plane.ref_ptr.1) ∙ ap (λ (v : Values). v.start + a.plane.ref_ptr.1) e;
@@ -36,8 +36,8 @@ slice_bounds-result-end-2 c = omega (arith, within (goal.at.slice_bounds-result-
 pub returns : goal.returns
 returns c =
     let a = c.args in
-    let at = c.in-At.at in
-    let e = sym (ap values_of c.in-At.is) ∙ c.find_row-start.ensures in
+    let at = c.in-Some.at in
+    let e = sym (ap values_of c.in-Some.is) ∙ c.find_row.ensures in
     record {
       block = refl;
       offset = ap (λ (v : Values). v.start + a.plane.ref_ptr.1) e;

@@ -5,13 +5,9 @@ use native.Mathlib.Omega.{arith}
 use mathlib.Core.Path.{refl, ap, ◌∙◌}
 use mathlib.Core.List.{List}
 use lib.ListN.{length, take}
-use Rattle.lent.proofs.Paint.{length-paint}
 use Rattle.wire_write.proofs.Front.{take-paint}
 use Rattle.wire_write.specs.Stream.{number_bytes}
 use Rattle.wire_write.proofs.put.numbers_part.Goals as goal
-
-pub numbers_out-requires : goal.numbers_out-requires
-numbers_out-requires c = (ap length c.numbers_in.ensures ∙ length-paint _ _ _, omega arith, omega arith)
 
 pub returns : goal.returns
 returns c =

@@ -1,0 +1,12 @@
+-- `columns::weave::every_nth` meets its contract. The invariant: the first i bytes are painted.
+-- Assumes nothing.
+use native.Mathlib.Omega.{arith}
+use mathlib.Core.Path.{refl}
+use Rattle.lent.proofs.SoFar.{so_far_none, so_far_more}
+use Rattle.columns.proofs.weave.every_nth.Goals as goal
+
+pub loop-i-init : goal.loop-i-init
+loop-i-init g c = so_far_none _ _
+
+pub loop-i-preserved : goal.loop-i-preserved
+loop-i-preserved g c = so_far_more _ _ c.loop-i.i c.loop-i.invariant (omega arith) refl
