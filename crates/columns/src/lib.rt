@@ -24,6 +24,7 @@ struct Zero {
 // Whether m bytes are too few for n pairs, as a number: they are not.
 fn missing(n: usize, m: usize) -> Zero
     requires { n ≤ m }
+    ensures { result.number ≡ 0 }
 {
     Zero {
         number: u16::from(m < n),

@@ -1,14 +1,13 @@
--- What `columns::missing` answers is 0: as many bytes as pairs are not too few.
+-- What `columns::missing` answers is 0: as many bytes as pairs are not too few. The fact of its type and its clause are each shown by themselves,
+-- so that a wrong `missing` is refused at both.
 -- Assumes nothing.
-use mathlib.Core.Path.{◌≡◌, ap, ◌∙◌}
+use mathlib.Core.Path.{ap, ◌∙◌}
 use mir.Val.{bool_byte}
 use borrow.Author.Tests.{le-ltb}
-use Rattle.columns.proofs.missing.Goals.{After-from}
 use Rattle.columns.proofs.missing.Goals as goal
 
--- no byte is missing
-none : (c : After-from) → c.from.result ≡ 0
-none c = c.from.ensures ∙ ap bool_byte (le-ltb c.args.m c.args.n c.requires)
-
 pub invariant_of-result : goal.invariant_of-result
-invariant_of-result c = record { is_zero = none (goal.at.invariant_of-result c).After-from }
+invariant_of-result c = record { is_zero = c.from.ensures ∙ ap bool_byte (le-ltb c.args.m c.args.n c.requires) }
+
+pub returns : goal.returns
+returns c = c.from.ensures ∙ ap bool_byte (le-ltb c.args.m c.args.n c.requires)
