@@ -232,9 +232,18 @@ pub fn half_up(n: u16) -> usize
     (n as usize + 1) / 2
 }
 
-// Whether len bytes are fewer than `rows` rows of `stride` bytes. The product is that of 128 bits, which does not wrap.
+// Whether len bytes are fewer than `rows` rows of `stride` bytes. It multiplies where both are below 2^32, which is fast, and else it
+// divides, so that no product wraps: one that is too large for the machine word is above every length.
 pub fn too_short(stride: usize, rows: usize, len: usize) -> bool
     ensures { result ≡ too_short stride rows len }
 {
-    (len as u128) < (rows as u128) * (stride as u128)
+    if stride < 4294967296 {
+        if rows < 4294967296 {
+            return len < rows * stride;
+        }
+    }
+    if rows == 0 {
+        return false;
+    }
+    len / rows < stride
 }
