@@ -8,7 +8,7 @@
 // quarter is filled in a place of its own, where the compiler knows how many bytes it is and makes no call for them.
 #![tactic(auto)]
 
-ghost use Rattle.std.specs.Prelude.{◌≡◌, ◌⊎◌, ◌+◌, ◌*◌, ◌<◌, ◌≤◌, ltb, length, get_or};
+ghost use Rattle.std.specs.Prelude.{◌≡◌, ◌⊎◌, ◌+◌, ◌*◌, ◌%◌, ◌<◌, ◌≤◌, ltb, length, get_or};
 ghost use Rattle.lent.specs.Paint.{paint, every};
 ghost use Rattle.lent.specs.Samples.{sample};
 ghost use Rattle.split_rows.specs.Seen.{seen};
@@ -48,6 +48,14 @@ fn bytes<const WHICH: usize>(dst: &mut [u8], pairs: &[u16])
     }
 }
 
+// dst becomes the first bytes of the pairs.
+pub fn firsts(dst: &mut [u8], pairs: &[u16])
+    requires { length dst.old ≡ length pairs.now }
+    ensures { dst.new ≡ paint every (λ k. get_or pairs.now k 0 % 256) dst.old }
+{
+    bytes::<0>(dst, pairs);
+}
+
 // dst, N bytes, becomes every second byte of src, the first being src[first].
 fn seconds<const N: usize>(dst: &mut [u8], src: &[u8], first: usize)
     requires dst_len { length dst.old ≡ N }
@@ -58,7 +66,7 @@ fn seconds<const N: usize>(dst: &mut [u8], src: &[u8], first: usize)
     let mut pairs = [0u16; N];
     pair(&mut pairs, src, N);
     if first == 0 {
-        bytes::<0>(dst, &pairs);
+        firsts(dst, &pairs);
     } else {
         bytes::<1>(dst, &pairs);
     }

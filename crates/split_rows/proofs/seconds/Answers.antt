@@ -7,10 +7,10 @@ use Rattle.split_rows.proofs.seconds.Goals as goal
 
 pub returns-then-first-eq0 : goal.returns-then-first-eq0
 returns-then-first-eq0 g c =
-    c.bytes.ensures
+    c.firsts.ensures
     ∙ rw c.pair.ensures (firsts_of c.args.src.now _ c.args.dst.now g.row.N (omega arith) (omega arith) (λ k. omega (arith, c.type_inv.src k)) c.if-first-eq0.true)
 
 pub returns-else-first-eq0 : goal.returns-else-first-eq0
 returns-else-first-eq0 g c =
-    c.bytes-else-first-eq0.ensures
+    c.bytes.ensures
     ∙ rw c.pair.ensures (lasts_of c.args.src.now _ c.args.dst.now g.row.N (omega arith) (omega arith) (λ k. omega (arith, c.type_inv.src k)) (omega arith))
