@@ -124,7 +124,7 @@ fn right<const N: usize>(row: &[u8], src: &[u8]) -> usize
     let mut at = 0;
     while N <= n - at {
         let end = at + N;
-        if parts::apart::<N>(&row[at..end], &src[at..end]) != 0 {
+        if parts::apart(&row[at..end], &src[at..end], N) != 0 {
             return at;
         }
         at = end;
@@ -167,7 +167,7 @@ fn filled_right_8(row: &[u8], fill: u8) -> usize
     let mut at = 0;
     while 8 <= n - at {
         let end = at + 8;
-        if parts::apart::<8>(&row[at..end], &src) != 0 {
+        if parts::apart(&row[at..end], &src, 8) != 0 {
             return at;
         }
         at = end;

@@ -2,21 +2,22 @@
 //
 // Each test promises 0 exactly where every byte is right. It looks at all of them and never stops, so that the compiler turns it into
 // vector code; where the bytes are every second one or every fourth one, it reads them as the writers of split_rows do, through pairs.
-// The size of a part is a parameter of the test's type: where it is handed over as a number, the compiler goes byte by byte.
+// The size of a part is a parameter of the test's type: where it is handed over as a number, the compiler goes byte by byte. `apart` alone
+// takes any number of columns, and each call hands it a constant.
 ghost use Rattle.std.specs.Prelude.{◌≡◌, ◌↔◌, ◌+◌, ◌*◌, ◌<◌, ◌≤◌, length, get_or};
 ghost use Rattle.std.specs.Int.{to_le_bytes, w16};
 ghost use Rattle.check_rows.specs.Rows.{Right, step_of, first_of};
 
 use crate::Taken;
 
-// 0 exactly when the first N columns are the first N bytes of src.
-pub fn apart<const N: usize>(row: &[u8], src: &[u8]) -> u8
-    requires n_in_bounds { N ≤ length row.now }
-    requires n_in_bounds_2 { N ≤ length src.now }
-    ensures { (result ≡ 0) ↔ Right row.now (λ c. get_or src.now c 0) N }
+// 0 exactly when the first n columns are the first n bytes of src.
+pub fn apart(row: &[u8], src: &[u8], n: usize) -> u8
+    requires n_in_bounds { n ≤ length row.now }
+    requires n_in_bounds_2 { n ≤ length src.now }
+    ensures { (result ≡ 0) ↔ Right row.now (λ c. get_or src.now c 0) n }
 {
     let mut bits = 0;
-    for i in 0..N {
+    for i in 0..n {
         bits |= row[i] ^ src[i];
     }
     bits
