@@ -42,7 +42,8 @@ fn put_turns(u: &mut [u8], v: &mut [u8], us: &[u8], vs: &[u8], none: Zero, most:
     ensures u { u.new ≡ paint (λ k. ltb k (2 * round_up 8 most)) (new_odds us.now u.old) u.old }
     ensures v { v.new ≡ paint (λ k. ltb k (2 * round_up 8 most)) (new_odds vs.now v.old) v.old }
 {
-    for i in (0..most).step_by(8) {
+    let mut i: usize = 0;
+    while i < most {
         let at = 2 * i;
         put_16(
             &mut u[at..at + 16],
@@ -51,6 +52,7 @@ fn put_turns(u: &mut [u8], v: &mut [u8], us: &[u8], vs: &[u8], none: Zero, most:
             &vs[i..i + 8],
             none,
         );
+        i += 8;
     }
 }
 

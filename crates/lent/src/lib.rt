@@ -107,8 +107,10 @@ pub fn copy(dst: &mut [u8], src: &[u8])
         return;
     }
     let last = n - 16;
-    for i in (0..last).step_by(16) {
+    let mut i = 0;
+    while i < last {
         copy_16(&mut dst[i..i + 16], &src[i..i + 16]);
+        i += 16;
     }
     copy_16(&mut dst[last..n], &src[last..n]);
 }

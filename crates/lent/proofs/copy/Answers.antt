@@ -3,12 +3,16 @@
 -- Assumes nothing.
 use Prim.Native.Nat.{ℕ, ◌+◌, ◌-◌}
 use native.Mathlib.Omega.{arith}
-use mathlib.Core.Path.{sym, subst}
-use mathlib.Core.List.{List}
+use mathlib.Core.Path.{refl}
 use lib.ListN.{length}
-use Rattle.lent.proofs.Copies.{Front, front_more, front_less, front_all}
+use Rattle.lent.proofs.Copies.{front_more, front_all}
 use Rattle.lent.proofs.copy.Goals as goal
-use Rattle.lent.proofs.copy.Goals.{else-loop-i-test, then-loop-i-test+else-last-i-gt16}
+
+pub returns-then-n-lt16 : goal.returns-then-n-lt16
+returns-then-n-lt16 c = c.copy_short.ensures
+
+pub loop-i-init : goal.loop-i-init
+loop-i-init c = (c.requires, refl)
 
 pub loop-i-preserved : goal.loop-i-preserved
 loop-i-preserved c =
@@ -18,13 +22,8 @@ loop-i-preserved c =
 
 pub returns : goal.returns
 returns c =
-    let src = c.args.src.now in
-    let n : ℕ = length src in
-    let i : ℕ = c.loop-i.i in
-    let here = λ (ys : List ℕ). Front src ys (n - 16) in
-    let before : Front src c.loop-i-test.dst (n - 16) = elim c.loop-i-test.branch [
-      | else-loop-i-test w ↦ subst here (sym w.dst-is) (front_less src _ i (n - 16) c.loop-i.invariant (omega arith))
-      | then-loop-i-test+else-last-i-gt16 w ↦ subst here (sym w.dst-is) (front_less src _ (i + 16) (n - 16)
-          (front_more src c.loop-i.dst i i (i + 16) c.loop-i.invariant (omega arith) (omega arith) (omega arith) w.copy_16.ensures) (omega arith))
-    ] in
-    front_all src n (front_more src c.loop-i-test.dst (n - 16) (n - 16) n before (omega arith) (omega arith) (omega arith) c.copy_16-2.ensures) (omega arith)
+    let a = c.args in
+    let n : ℕ = length a.src.now in
+    front_all a.src.now n
+    (front_more a.src.now c.loop-i.dst c.loop-i.i (n - 16) n c.loop-i.invariant (omega arith) (omega arith) (omega arith) c.copy_16-2.ensures)
+    (omega arith)

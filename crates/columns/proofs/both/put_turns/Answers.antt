@@ -28,12 +28,12 @@ loop-i-preserved c =
 ended : (from xs : List ℕ) {ys : List ℕ} (i end : ℕ) → i ≡ end → SoFar (new_odds from xs) xs ys (2 * i) → ys ≡ paint (λ k. ltb k (2 * end)) (new_odds from xs) xs
 ended from xs i end e f = rw e at f.1
 
-pub returns-2 : goal.returns-2
-returns-2 c =
+pub returns : goal.returns
+returns c =
     let a = c.args in
     let i : ℕ = c.loop-i.i in
-    let end : i + 8 ≡ (a.most + 7) / 8 * 8 = omega (arith, c.loop-i.invariant.0, c.loop-i.invariant.1) in
+    let end : i ≡ (a.most + 7) / 8 * 8 = omega (arith, c.loop-i.invariant.0, c.loop-i.invariant.1) in
     record {
-      u = ended a.us.now a.u.now (i + 8) _ end (new_more a.us.now a.u.now i c.loop-i.invariant.2 (omega arith) c.put_16.ensures.u);
-      v = ended a.vs.now a.v.now (i + 8) _ end (new_more a.vs.now a.v.now i c.loop-i.invariant.3 (omega arith) c.put_16.ensures.v);
+      u = ended a.us.now a.u.now i _ end c.loop-i.invariant.2;
+      v = ended a.vs.now a.v.now i _ end c.loop-i.invariant.3;
     }
