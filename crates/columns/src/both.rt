@@ -35,7 +35,7 @@ fn put_16(u: &mut [u8], v: &mut [u8], us: &[u8], vs: &[u8], none: Zero)
     lent::copy_front(v, &new_v, 16);
 }
 
-// Both rows by turns of 16 places, up to the pair `most` or somewhat further.
+// Both rows by turns of 16 places, up to the pair `most` or somewhat further. (By a sum, and no `for`: see `lent::copy`.)
 fn put_turns(u: &mut [u8], v: &mut [u8], us: &[u8], vs: &[u8], none: Zero, most: usize)
     requires u_len { (length u.old ≡ 2 * most + 16) × (length v.old ≡ 2 * most + 16) }
     requires most_in_bounds { (most + 8 ≤ length us.now) × (most + 8 ≤ length vs.now) }
@@ -99,7 +99,8 @@ fn put_few(u: &mut [u8], v: &mut [u8], us: &[u8], vs: &[u8])
     }
 }
 
-// The odd places of u and v become the bytes of us and vs, as by `put_odds` of each, which longer rows go by.
+// The odd places of u and v become the bytes of us and vs, as by `put_odds` of each, which longer rows go by. The rows that go by turns are asked for
+// first: with the rows of a few pairs first, V1 over small rectangles took up to 1.14 of the time.
 pub fn put_odds(u: &mut [u8], v: &mut [u8], us: &[u8], vs: &[u8])
     requires u_len { length u.old ≡ length v.old }
     requires odds_fit { OddsFit (length u.old) (length us.now) × OddsFit (length v.old) (length vs.now) }
@@ -107,13 +108,15 @@ pub fn put_odds(u: &mut [u8], v: &mut [u8], us: &[u8], vs: &[u8])
     ensures v { v.new ≡ paint odd (λ k. get_or vs.now (k / 2) 0) v.old }
 {
     let n = u.len() / 2;
+    if 8 <= n {
+        if n < 64 {
+            let none = crate::missing(n, us.len());
+            put_many(u, v, us, vs, none, n - 8);
+            return;
+        }
+    }
     if n < 8 {
         put_few(u, v, us, vs);
-        return;
-    }
-    if n < 64 {
-        let none = crate::missing(n, us.len());
-        put_many(u, v, us, vs, none, n - 8);
         return;
     }
     crate::put_odds(u, us);

@@ -96,7 +96,7 @@ fn copy_short(dst: &mut [u8], src: &[u8])
 }
 
 // dst becomes src. 16 bytes a turn; the last turn ends at the end, whatever it has in common with the one before: no byte is left for a
-// slow rest.
+// slow rest. By a sum, and no `for`: with `step_by` V1 over small rectangles took up to 1.24 of the time, by a count of turns up to 1.14.
 pub fn copy(dst: &mut [u8], src: &[u8])
     requires { length dst.old ≡ length src.now }
     ensures { dst.new ≡ src.now }
